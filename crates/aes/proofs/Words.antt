@@ -1,0 +1,29 @@
+-- Laws of words and of columns kept as one number.
+use mathlib.Core.Path.{_≡_, refl, ap, ap₂, _∙_}
+use mathlib.Core.List.{List, [], _∷_}
+use Prim.Native.Nat.{ℕ, _+_, _*_, _<_}
+use native.Mathlib.Omega.{arith}
+use mir.Syntax.{w8}
+use mir.Val.{Fits}
+use lib.ListN.{getD}
+use Rattle.bits.specs.Xor.{_⊕_, xorList}
+use Rattle.bits.proofs.Xor.{xor-byte}
+use Rattle.aes.specs.Steps.{unpackOf}
+
+-- what an array of four bytes is known to hold
+pub record FourBytes (a : List ℕ) : Type 0 where
+  pub b0 : Fits w8 (getD a 0 0)
+  pub b1 : Fits w8 (getD a 1 0)
+  pub b2 : Fits w8 (getD a 2 0)
+  pub b3 : Fits w8 (getD a 3 0)
+
+pub cons4 : {A : Type 0} {a b c d p q r s : A} → a ≡ p → b ≡ q → c ≡ r → d ≡ s → a ∷ b ∷ c ∷ d ∷ [] ≡ p ∷ q ∷ r ∷ s ∷ []
+cons4 e f g h = cc
+
+-- the sum of two packed columns is the sum of the columns
+pub unpack-xor : (x y : ℕ) → unpackOf (x ⊕ y) ≡ xorList (unpackOf x) (unpackOf y)
+unpack-xor x y = cons4 (xor-byte 0 x y) (xor-byte 1 x y) (xor-byte 2 x y) (xor-byte 3 x y)
+
+-- four bytes packed and unpacked again
+pub unpacked : (a b c d : ℕ) → a < 256 → b < 256 → c < 256 → d < 256 → unpackOf (a + b * 256 + c * 65536 + d * 16777216) ≡ a ∷ b ∷ c ∷ d ∷ []
+unpacked a b c d la lb lc ld = cons4 (omega arith) (omega arith) (omega arith) (omega arith)

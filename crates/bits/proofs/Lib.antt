@@ -1,0 +1,5 @@
+pub mod Lists
+pub mod Bytes
+pub mod Xor
+pub mod BigEndian
+pub mod Table

@@ -1,0 +1,108 @@
+-- Laws of exclusive or that the toolchain's library (lib.Bits) lacks: it is associative, undoes itself, goes byte by byte; and of lists.
+use mathlib.Core.Path.{_≡_, refl, sym, ap, ap₂, _∙_}
+use mathlib.Core.List.{List, [], _∷_}
+use Prim.Native.Nat.{ℕ, zero, suc, _+_, _*_, _/_, _%_, _^_, _<_}
+use native.Mathlib.Nat.{mod-lt, zero-lt-suc}
+use native.Mathlib.Omega.{arith}
+use lib.Arith.{bin-ind}
+use lib.Bits.{bitXor, differ, xor-step, xor-self, xor-zero-r, xor-shr, xor-mod, xor-comm, xor-lt}
+use lib.Dec.{T}
+use lib.ListN.{length, getD}
+use lib.Pow.{areBytes}
+use Rattle.bits.specs.BigEndian.{byteOf}
+use Rattle.bits.specs.Xor.{_⊕_, xorPad, xorList}
+use Rattle.bits.proofs.Bytes.{first-byte, other-bytes, cons-bytes}
+
+-- ---- numbers
+
+differ-assoc : (x y z : ℕ) → x < 2 → y < 2 → z < 2 → differ (differ x y) z ≡ differ x (differ y z)
+differ-assoc zero y z a b c = refl
+differ-assoc (suc zero) zero z a b c = refl
+differ-assoc (suc zero) (suc zero) zero a b c = refl
+differ-assoc (suc zero) (suc zero) (suc zero) a b c = refl
+differ-assoc (suc zero) (suc zero) (suc (suc z)) a b c = absurd (omega arith)
+differ-assoc (suc zero) (suc (suc y)) z a b c = absurd (omega arith)
+differ-assoc (suc (suc x)) y z a b c = absurd (omega arith)
+
+differ-lt : (x y : ℕ) → x < 2 → y < 2 → differ x y < 2
+differ-lt zero y a b = b
+differ-lt (suc zero) zero a b = a
+differ-lt (suc zero) (suc zero) a b = zero-lt-suc 1
+differ-lt (suc zero) (suc (suc y)) a b = absurd (omega arith)
+differ-lt (suc (suc x)) y a b = absurd (omega arith)
+
+odd : (a : ℕ) → a % 2 < 2
+odd a = mod-lt a (zero-lt-suc 1)
+
+xor-odd : (a b : ℕ) → (a ⊕ b) % 2 ≡ differ (a % 2) (b % 2)
+xor-odd a b =
+    let h : differ (a % 2) (b % 2) < 2 = differ-lt (a % 2) (b % 2) (odd a) (odd b) in
+    ap (λ (n : ℕ). n % 2) (xor-step a b) ∙ omega arith
+
+xor-half : (a b : ℕ) → (a ⊕ b) / 2 ≡ (a / 2) ⊕ (b / 2)
+xor-half a b = xor-shr a b 1
+
+pub xor-assoc : (a b c : ℕ) → a ⊕ b ⊕ c ≡ a ⊕ (b ⊕ c)
+xor-assoc a =
+    bin-ind (λ (n : ℕ). (b c : ℕ) → n ⊕ b ⊕ c ≡ n ⊕ (b ⊕ c)) (λ b c. refl)
+    (λ n ih b c.
+    xor-step (n ⊕ b) c
+    ∙ ap₂ (λ (x y : ℕ). bitXor x (c / 2) * 2 + differ y (c % 2)) (xor-half n b) (xor-odd n b)
+    ∙ ap₂ (λ (x y : ℕ). x * 2 + y) (ih (b / 2) (c / 2)) (differ-assoc (n % 2) (b % 2) (c % 2) (odd n) (odd b) (odd c))
+    ∙ sym (ap₂ (λ (x y : ℕ). bitXor (n / 2) x * 2 + differ (n % 2) y) (xor-half b c) (xor-odd b c))
+    ∙ sym (xor-step n (b ⊕ c))) a
+
+-- the same number twice
+pub xor-twice : (a b : ℕ) → a ⊕ b ⊕ b ≡ a
+xor-twice a b = xor-assoc a b b ∙ ap (bitXor a) (xor-self b) ∙ xor-zero-r a
+
+-- a byte of a xor
+pub xor-byte : (j a b : ℕ) → byteOf j (a ⊕ b) ≡ byteOf j a ⊕ byteOf j b
+xor-byte j a b = ap (λ (n : ℕ). n % 2 ^ 8) (xor-shr a b (8 * j)) ∙ xor-mod (a / 2 ^ (8 * j)) (b / 2 ^ (8 * j)) 8
+
+-- ---- a list with a pad
+
+pub length-pad : (f : ℕ → ℕ) (l : List ℕ) → length (xorPad f l) ≡ length l
+length-pad f [] = refl
+length-pad f (x ∷ l) = ap suc (length-pad (λ i. f (suc i)) l)
+
+pub pad-at : (f : ℕ → ℕ) (l : List ℕ) (i : ℕ) → i < length l → getD (xorPad f l) i 0 ≡ getD l i 0 ⊕ f i
+pad-at f [] i h = absurd (omega arith)
+pad-at f (x ∷ l) zero h = refl
+pad-at f (x ∷ l) (suc i) h = pad-at (λ k. f (suc k)) l i (omega arith)
+
+-- only what the pad is below the length counts
+pub pad-ext : (f g : ℕ → ℕ) (l : List ℕ) → ((i : ℕ) → i < length l → f i ≡ g i) → xorPad f l ≡ xorPad g l
+pad-ext f g [] h = refl
+pad-ext f g (x ∷ l) h =
+    ap₂ (λ (a : ℕ) (r : List ℕ). x ⊕ a ∷ r) (h 0 (omega arith)) (pad-ext (λ i. f (suc i)) (λ i. g (suc i)) l (λ i b. h (suc i) (omega arith)))
+
+-- one pad after another is their xor
+pub pad-pad : (f g : ℕ → ℕ) (l : List ℕ) → xorPad g (xorPad f l) ≡ xorPad (λ i. f i ⊕ g i) l
+pad-pad f g [] = refl
+pad-pad f g (x ∷ l) = ap₂ (λ (a : ℕ) (r : List ℕ). a ∷ r) (xor-assoc x (f 0) (g 0)) (pad-pad (λ i. f (suc i)) (λ i. g (suc i)) l)
+
+-- a pad is undone by itself
+pub pad-twice : (f : ℕ → ℕ) (l : List ℕ) → xorPad f (xorPad f l) ≡ l
+pad-twice f [] = refl
+pad-twice f (x ∷ l) = ap₂ (λ (a : ℕ) (r : List ℕ). a ∷ r) (xor-twice x (f 0)) (pad-twice (λ i. f (suc i)) l)
+
+-- bytes stay bytes
+pub pad-bytes : (f : ℕ → ℕ) (l : List ℕ) → ((i : ℕ) → f i < 256) → T (areBytes l) → T (areBytes (xorPad f l))
+pad-bytes f [] h t = tt
+pad-bytes f (x ∷ l) h t =
+    cons-bytes (x ⊕ f 0) (xorPad (λ i. f (suc i)) l) (xor-lt 8 x (f 0) (first-byte x l t) (h 0))
+    (pad-bytes (λ i. f (suc i)) l (λ i. h (suc i)) (other-bytes x l t))
+
+-- ---- two lists
+
+pub xor-lists-comm : (a b : List ℕ) → length a ≡ length b → xorList a b ≡ xorList b a
+xor-lists-comm [] [] e = refl
+xor-lists-comm [] (y ∷ b) e = absurd (omega arith)
+xor-lists-comm (x ∷ a) [] e = absurd (omega arith)
+xor-lists-comm (x ∷ a) (y ∷ b) e = ap₂ (λ (z : ℕ) (r : List ℕ). z ∷ r) (xor-comm x y) (xor-lists-comm a b (omega arith))
+
+pub xor-lists-assoc : (a b c : List ℕ) → length a ≡ length b → xorList (xorList a b) c ≡ xorList a (xorList b c)
+xor-lists-assoc a b c e =
+    pad-pad (λ i. getD b i 0) (λ i. getD c i 0) a
+    ∙ pad-ext (λ i. getD b i 0 ⊕ getD c i 0) (λ i. getD (xorList b c) i 0) a (λ i h. sym (pad-at (λ k. getD c k 0) b i (omega arith)))

@@ -1,0 +1,5 @@
+pub mod Pick
+pub mod Lists
+pub mod Xor
+pub mod BigEndian
+pub mod Refusals

@@ -1,0 +1,40 @@
+-- Document 01, "Numbers given back": the refusals, and their numbers.
+use mathlib.Core.Path.{_≡_}
+use mathlib.Core.List.{List, [], _∷_, map}
+use Prim.Native.Nat.{ℕ, _-_}
+use lib.ListN.{getD}
+use Rattle.bits.specs.declared.refusal.Refusal.{Refusal}
+use Rattle.bits.specs.declared.refusal.Refusal.the-variants.{Length, Short, Version, Header, Profile, Element, Large, Room, Stream, Order, Worn, Old, Repeat, Tag, Keys, Policy, Twice, Full, Absent}
+
+-- the number that a call gives back for a refusal
+abbrev pub numberOf : Refusal → ℕ
+numberOf Length = 1
+numberOf Short = 2
+numberOf Version = 3
+numberOf Header = 4
+numberOf Profile = 5
+numberOf Element = 6
+numberOf Large = 7
+numberOf Room = 8
+numberOf Stream = 9
+numberOf Order = 10
+numberOf Worn = 11
+numberOf Old = 12
+numberOf Repeat = 13
+numberOf Tag = 14
+numberOf Keys = 15
+numberOf Policy = 16
+numberOf Twice = 17
+numberOf Full = 18
+numberOf Absent = 19
+
+-- the table of document 01, row by row
+abbrev pub refusals : List Refusal
+refusals =
+    Length ∷ Short ∷ Version ∷ Header ∷ Profile ∷ Element ∷ Large ∷ Room ∷ Stream ∷ Order
+    ∷ Worn ∷ Old ∷ Repeat ∷ Tag ∷ Keys ∷ Policy ∷ Twice ∷ Full ∷ Absent ∷ []
+
+-- The rows are numbered from 1 on, and a refusal stands in the row of its number: so no two share one, and none is missing.
+pub record Numbered : Type 0 where
+  pub numbers : map numberOf refusals ≡ 1 ∷ 2 ∷ 3 ∷ 4 ∷ 5 ∷ 6 ∷ 7 ∷ 8 ∷ 9 ∷ 10 ∷ 11 ∷ 12 ∷ 13 ∷ 14 ∷ 15 ∷ 16 ∷ 17 ∷ 18 ∷ 19 ∷ []
+  pub rows : (r : Refusal) → getD refusals (numberOf r - 1) Length ≡ r
