@@ -1,11 +1,11 @@
--- Laws of exclusive or that the toolchain's library (lib.Bits) lacks: it is associative, undoes itself, goes byte by byte; and of lists.
+-- Laws of exclusive or that the toolchain's library (lib.Bits) lacks: it is associative, undoes itself, has `and` over it, goes byte by byte; and of lists.
 use mathlib.Core.Path.{_≡_, refl, sym, ap, ap₂, _∙_}
-use mathlib.Core.List.{List, [], _∷_}
-use Prim.Native.Nat.{ℕ, zero, suc, _+_, _*_, _/_, _%_, _^_, _<_}
-use native.Mathlib.Nat.{mod-lt, zero-lt-suc}
+use mathlib.Core.List.{List, [], _∷_, _++_}
+use Prim.Native.Nat.{ℕ, zero, suc, _+_, _*_, _/_, _%_, _^_, _<_, min}
+use native.Mathlib.Nat.{mod-lt, zero-lt-suc, lt-of-le-of-lt, min-le-left, zero-min}
 use native.Mathlib.Omega.{arith}
 use lib.Arith.{bin-ind}
-use lib.Bits.{bitXor, differ, xor-step, xor-self, xor-zero-r, xor-shr, xor-mod, xor-comm, xor-lt}
+use lib.Bits.{bitAnd, bitXor, differ, and-step, and-zero-l, and-shr, xor-step, xor-self, xor-zero-r, xor-shr, xor-mod, xor-comm, xor-lt}
 use lib.Dec.{T}
 use lib.ListN.{length, getD}
 use lib.Pow.{areBytes}
@@ -56,6 +56,37 @@ xor-assoc a =
 pub xor-twice : (a b : ℕ) → a ⊕ b ⊕ b ≡ a
 xor-twice a b = xor-assoc a b b ∙ ap (bitXor a) (xor-self b) ∙ xor-zero-r a
 
+-- ---- and, over exclusive or
+
+min-differ : (x y z : ℕ) → x < 2 → y < 2 → z < 2 → min x (differ y z) ≡ differ (min x y) (min x z)
+min-differ zero y z a b c = simp zero-min
+min-differ (suc zero) zero zero a b c = refl
+min-differ (suc zero) zero (suc zero) a b c = refl
+min-differ (suc zero) (suc zero) zero a b c = refl
+min-differ (suc zero) (suc zero) (suc zero) a b c = refl
+min-differ (suc zero) zero (suc (suc z)) a b c = absurd (omega arith)
+min-differ (suc zero) (suc zero) (suc (suc z)) a b c = absurd (omega arith)
+min-differ (suc zero) (suc (suc y)) z a b c = absurd (omega arith)
+min-differ (suc (suc x)) y z a b c = absurd (omega arith)
+
+and-odd : (a b : ℕ) → bitAnd a b % 2 ≡ min (a % 2) (b % 2)
+and-odd a b =
+    let h : min (a % 2) (b % 2) < 2 = lt-of-le-of-lt (min-le-left (a % 2) (b % 2)) (odd a) in
+    ap (λ (n : ℕ). n % 2) (and-step a b) ∙ omega arith
+
+pub and-xor : (a b c : ℕ) → bitAnd a (b ⊕ c) ≡ bitAnd a b ⊕ bitAnd a c
+and-xor a =
+    bin-ind (λ (n : ℕ). (b c : ℕ) → bitAnd n (b ⊕ c) ≡ bitAnd n b ⊕ bitAnd n c) (λ b c. simp and-zero-l)
+    (λ n ih b c.
+    and-step n (b ⊕ c)
+    ∙ ap₂ (λ (x y : ℕ). bitAnd (n / 2) x * 2 + min (n % 2) y) (xor-half b c) (xor-odd b c)
+    ∙ ap₂ (λ (x y : ℕ). x * 2 + y) (ih (b / 2) (c / 2)) (min-differ (n % 2) (b % 2) (c % 2) (odd n) (odd b) (odd c))
+    ∙ sym (ap₂ (λ (x y : ℕ). bitXor x (bitAnd (n / 2) (c / 2)) * 2 + differ y (min (n % 2) (c % 2))) (and-shr n b 1) (and-odd n b))
+    ∙ sym (ap₂ (λ (x y : ℕ). bitXor (bitAnd n b / 2) x * 2 + differ (bitAnd n b % 2) y) (and-shr n c 1) (and-odd n c))
+    ∙ sym (xor-step (bitAnd n b) (bitAnd n c))) a
+
+-- ---- bytes
+
 -- a byte of a xor
 pub xor-byte : (j a b : ℕ) → byteOf j (a ⊕ b) ≡ byteOf j a ⊕ byteOf j b
 xor-byte j a b = ap (λ (n : ℕ). n % 2 ^ 8) (xor-shr a b (8 * j)) ∙ xor-mod (a / 2 ^ (8 * j)) (b / 2 ^ (8 * j)) 8
@@ -76,6 +107,15 @@ pub pad-ext : (f g : ℕ → ℕ) (l : List ℕ) → ((i : ℕ) → i < length l
 pad-ext f g [] h = refl
 pad-ext f g (x ∷ l) h =
     ap₂ (λ (a : ℕ) (r : List ℕ). x ⊕ a ∷ r) (h 0 (omega arith)) (pad-ext (λ i. f (suc i)) (λ i. g (suc i)) l (λ i b. h (suc i) (omega arith)))
+
+-- the parts of a list
+pub pad-append : (f : ℕ → ℕ) (a b : List ℕ) → xorPad f (a ++ b) ≡ xorPad f a ++ xorPad (λ i. f (length a + i)) b
+pad-append f [] b = pad-ext f (λ i. f (0 + i)) b (λ i h. ap f (omega arith))
+pad-append f (x ∷ a) b =
+    ap (λ (r : List ℕ). x ⊕ f 0 ∷ r)
+    (pad-append (λ i. f (suc i)) a b
+    ∙ ap (λ (r : List ℕ). xorPad (λ i. f (suc i)) a ++ r)
+    (pad-ext (λ i. f (suc (length a + i))) (λ i. f (suc (length a) + i)) b (λ i h. ap f (omega arith))))
 
 -- one pad after another is their xor
 pub pad-pad : (f g : ℕ → ℕ) (l : List ℕ) → xorPad g (xorPad f l) ≡ xorPad (λ i. f i ⊕ g i) l

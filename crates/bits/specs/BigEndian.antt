@@ -1,4 +1,4 @@
--- Bytes and the numbers they stand for, in network byte order: the highest byte first (RFC 3550, section 4).
+-- Bytes and the numbers they stand for, in network byte order: the highest byte first (RFC 3550, section 4; FIPS 180-4, section 3.1).
 use mathlib.Core.List.{List, [], _∷_}
 use Prim.Native.Nat.{ℕ, zero, suc, _+_, _*_, _/_, _%_, _^_}
 use lib.ListN.{length}

@@ -1,11 +1,15 @@
 // Published test vectors, run through the proved code: the file `stdout` beside src/ has what was published.
-// Follows FIPS 197, appendices B and C.1, and SP 800-38A, F.1.1.
+// Follows FIPS 197 (appendices B and C.1), SP 800-38A (F.1.1), FIPS 180 (examples) and RFC 2202 (section 3).
 mod examples;
+mod fips180;
 mod fips197;
 mod print;
+mod rfc2202;
 mod sp800_38a;
 
 fn main() {
     fips197::run();
     sp800_38a::run();
+    fips180::run();
+    rfc2202::run();
 }

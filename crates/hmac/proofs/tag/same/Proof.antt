@@ -1,0 +1,65 @@
+-- `hmac::tag::same` meets its contract: the bits that differ, collected byte by byte.
+use mathlib.Core.Path.{_≡_, refl}
+use Prim.Native.Nat.{_≤_, _-_}
+use native.Mathlib.Omega.{arith}
+use borrow.Author.Needs.{needs}
+use lib.Dec.{eqb}
+use lib.ListN.{length, take}
+use Rattle.hmac.specs.Tag.{sameOf}
+use Rattle.hmac.proofs.Tags.{compared, compared-all, other-length}
+use Rattle.hmac.proofs.tag.same.Statement.{statement}
+use Rattle.hmac.proofs.tag.same.Tie as tie
+
+abbrev Inv-loop : tie.InvT-loop
+Inv-loop a b differ₀ i₀ differ i = (i ≤ length a) × (eqb differ 0 ≡ sameOf (take i a) (take i b))
+
+abbrev μ-loop : tie.MeasureT-loop
+μ-loop a b differ₀ i₀ differ i = length a - i
+
+returns : tie.Need-returns Inv-loop μ-loop
+returns c = other-length (c .before .args .a .now) (c .before .args .b .now) (c .if1 .taken)
+
+loop-holds : tie.Need-loop-holds Inv-loop μ-loop
+unfolding sameOf
+loop-holds c = (search needs, refl)
+
+shared-slice-read-differ : tie.Need-shared-slice-read-differ Inv-loop μ-loop
+shared-slice-read-differ c = search needs
+
+shared-slice-read-differ-2 : tie.Need-shared-slice-read-differ-2 Inv-loop μ-loop
+shared-slice-read-differ-2 c = search needs
+
+add-i : tie.Need-add-i Inv-loop μ-loop
+add-i c = search needs
+
+loop-less : tie.Need-loop-less Inv-loop μ-loop
+loop-less c = search needs
+
+loop-again : tie.Need-loop-again Inv-loop μ-loop
+loop-again c =
+    let l = c .before .before .before .loop in
+    let n = c .before .before .before .before in
+    let g = n .before .args in
+    (search needs, compared (g .a .now) (g .b .now) (l .differ) (l .i) (omega arith) (n .if1 .left) (l .inv .1))
+
+returns-2 : tie.Need-returns-2 Inv-loop μ-loop
+returns-2 c =
+    let l = c .before .loop in
+    let n = c .before .before in
+    let g = n .before .args in
+    compared-all (g .a .now) (g .b .now) (l .differ) (l .i) (omega arith) (n .if1 .left) (l .inv .1)
+
+pub same-spec : {M : Type 1} → statement M
+same-spec =
+    tie.close
+    (tie.spec
+    Inv-loop
+    μ-loop
+    returns
+    loop-holds
+    shared-slice-read-differ
+    shared-slice-read-differ-2
+    add-i
+    loop-less
+    loop-again
+    returns-2)

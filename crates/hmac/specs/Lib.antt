@@ -1,0 +1,3 @@
+pub mod Hmac
+pub mod Steps
+pub mod Tag

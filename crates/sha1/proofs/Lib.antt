@@ -1,0 +1,6 @@
+pub mod Functions
+pub mod Stages
+pub mod Schedule
+pub mod Turns
+pub mod Blocks
+pub mod Padding
