@@ -2,12 +2,12 @@
 use mathlib.Core.Path.{_≡_, refl, sym, ap, ap₂, _∙_, subst}
 use mathlib.Core.List.{List, [], _∷_, _++_}
 use Prim.Native.Nat.{ℕ, zero, suc, _+_, _*_, _/_, _%_, _^_, _<_}
-use native.Mathlib.Nat.{mod-lt, mod-one, mod-eq-of-lt, add-assoc, add-mul, mul-assoc, zero-add, zero-mul}
+use native.Mathlib.Nat.{mod-lt, mod-one, mod-eq-of-lt, add-assoc, add-mul, mul-assoc, zero-add, zero-mul, suc-add}
 use native.Mathlib.Omega.{arith}
 use lib.Arith.{digits-lt, digits-div, digits-mod}
 use lib.Dec.{T}
 use lib.ListN.{length, length-append}
-use lib.Pow.{areBytes, pow-add, pow-pos, mod-pow-add, mod-mod-pow, field}
+use lib.Pow.{areBytes, pow-add, pow-pos, mod-pow-add, mod-mod-pow, field, shr-shr}
 use Rattle.bits.specs.BigEndian.{byteOf, toBytes, fromBytes}
 use Rattle.bits.proofs.Bytes.{first-byte, other-bytes, cons-bytes}
 
@@ -73,3 +73,16 @@ to-from (x ∷ l) t =
     ap₂ (λ (b : ℕ) (s : List ℕ). b ∷ s)
     (ap (λ (n : ℕ). n % 2 ^ 8) (digits-div x r) ∙ mod-eq-of-lt (first-byte x l t))
     (to-low (length l) (x * w + fromBytes l) (fromBytes l) (digits-mod x r ∙ sym (mod-eq-of-lt r)) ∙ to-from l (other-bytes x l t))
+
+-- two parts of a number, each in its own bytes
+pub to-append : (m n x y : ℕ) → y < 2 ^ (8 * n) → toBytes (m + n) (x * 2 ^ (8 * n) + y) ≡ toBytes m x ++ toBytes n y
+to-append zero n x y h =
+    ap (λ (k : ℕ). toBytes k (x * 2 ^ (8 * n) + y)) (zero-add n)
+    ∙ to-low n (x * 2 ^ (8 * n) + y) y (digits-mod x h ∙ sym (mod-eq-of-lt h))
+to-append (suc m) n x y h =
+    let z = x * 2 ^ (8 * n) + y in
+    let e : 8 * n + 8 * m ≡ 8 * (m + n) = omega arith in
+    ap (λ (k : ℕ). toBytes k z) (suc-add m n)
+    ∙ ap₂ (λ (b : ℕ) (r : List ℕ). b ∷ r)
+    (ap (λ (v : ℕ). v % 2 ^ 8) (ap (λ (k : ℕ). z / 2 ^ k) (sym e) ∙ sym (shr-shr z (8 * n) (8 * m)) ∙ ap (λ (v : ℕ). v / 2 ^ (8 * m)) (digits-div x h)))
+    (to-append m n x y h)

@@ -1,7 +1,7 @@
 -- Laws of lists that the toolchain's libraries lack.
-use mathlib.Core.Path.{_≡_, refl, sym, ap, _∙_}
+use mathlib.Core.Path.{_≡_, refl, sym, ap, ap₂, _∙_}
 use mathlib.Core.List.{List, [], _∷_, map}
-use Prim.Native.Nat.{ℕ, zero, suc}
+use Prim.Native.Nat.{ℕ, zero, suc, _<_}
 use native.Mathlib.Omega.{arith}
 use lib.ListN.{length, getD, length-map}
 use Rattle.bits.specs.Lists.{tabulate}
@@ -12,6 +12,12 @@ tabulated d zero [] e = refl
 tabulated d zero (x ∷ l) e = absurd (omega arith)
 tabulated d (suc n) [] e = absurd (omega arith)
 tabulated d (suc n) (x ∷ l) e = ap (λ (r : List _). x ∷ r) (tabulated d n l (omega arith))
+
+-- only the first n elements count
+pub tabulate-ext : {A : Type 0} (n : ℕ) (f g : ℕ → A) → ((i : ℕ) → i < n → f i ≡ g i) → tabulate n f ≡ tabulate n g
+tabulate-ext zero f g h = refl
+tabulate-ext (suc n) f g h =
+    ap₂ (λ (x : _) (r : List _). x ∷ r) (h 0 (omega arith)) (tabulate-ext n (λ i. f (suc i)) (λ i. g (suc i)) (λ i b. h (suc i) (omega arith)))
 
 -- the length of an array of structs: what owning it tells is the length of its elements' machine values
 pub length-mapped : (X Y : Type 0) (f : X → Y) (l : List X) (n : ℕ) → length (map f l) ≡ n → length l ≡ n

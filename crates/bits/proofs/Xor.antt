@@ -2,14 +2,14 @@
 use mathlib.Core.Path.{_≡_, refl, sym, ap, ap₂, _∙_}
 use mathlib.Core.List.{List, [], _∷_, _++_}
 use Prim.Native.Nat.{ℕ, zero, suc, _+_, _*_, _/_, _%_, _^_, _<_, min}
-use native.Mathlib.Nat.{mod-lt, zero-lt-suc, lt-of-le-of-lt, min-le-left, zero-min}
+use native.Mathlib.Nat.{add-zero, mod-lt, zero-lt-suc, lt-of-le-of-lt, min-le-left, zero-min}
 use native.Mathlib.Omega.{arith}
 use lib.Arith.{bin-ind}
-use lib.Bits.{bitAnd, bitXor, differ, and-step, and-zero-l, and-shr, xor-step, xor-self, xor-zero-r, xor-shr, xor-mod, xor-comm, xor-lt}
+use lib.Bits.{bitAnd, bitXor, differ, and-step, and-zero-l, and-shr, xor-step, xor-self, xor-zero-r, xor-shr, xor-mod, xor-comm, xor-lt, xor-block}
 use lib.Dec.{T}
 use lib.ListN.{length, getD}
-use lib.Pow.{areBytes}
-use Rattle.bits.specs.BigEndian.{byteOf}
+use lib.Pow.{areBytes, pow-pos}
+use Rattle.bits.specs.BigEndian.{byteOf, toBytes}
 use Rattle.bits.specs.Xor.{_⊕_, xorPad, xorList}
 use Rattle.bits.proofs.Bytes.{first-byte, other-bytes, cons-bytes}
 
@@ -91,6 +91,11 @@ and-xor a =
 pub xor-byte : (j a b : ℕ) → byteOf j (a ⊕ b) ≡ byteOf j a ⊕ byteOf j b
 xor-byte j a b = ap (λ (n : ℕ). n % 2 ^ 8) (xor-shr a b (8 * j)) ∙ xor-mod (a / 2 ^ (8 * j)) (b / 2 ^ (8 * j)) 8
 
+-- moved up together
+pub xor-shift : (k a b : ℕ) → (a * 2 ^ k) ⊕ (b * 2 ^ k) ≡ (a ⊕ b) * 2 ^ k
+xor-shift k a b =
+    ap₂ bitXor (sym (add-zero (a * 2 ^ k))) (sym (add-zero (b * 2 ^ k))) ∙ xor-block k a b 0 0 (pow-pos k) (pow-pos k) ∙ add-zero ((a ⊕ b) * 2 ^ k)
+
 -- ---- a list with a pad
 
 pub length-pad : (f : ℕ → ℕ) (l : List ℕ) → length (xorPad f l) ≡ length l
@@ -101,6 +106,12 @@ pub pad-at : (f : ℕ → ℕ) (l : List ℕ) (i : ℕ) → i < length l → get
 pad-at f [] i h = absurd (omega arith)
 pad-at f (x ∷ l) zero h = refl
 pad-at f (x ∷ l) (suc i) h = pad-at (λ k. f (suc k)) l i (omega arith)
+
+-- a place where the pad is 0 stays
+pub pad-stays : (f : ℕ → ℕ) (l : List ℕ) (i : ℕ) → f i ≡ 0 → getD (xorPad f l) i 0 ≡ getD l i 0
+pad-stays f [] i h = refl
+pad-stays f (x ∷ l) zero h = ap (λ (a : ℕ). x ⊕ a) h ∙ xor-zero-r x
+pad-stays f (x ∷ l) (suc i) h = pad-stays (λ k. f (suc k)) l i h
 
 -- only what the pad is below the length counts
 pub pad-ext : (f g : ℕ → ℕ) (l : List ℕ) → ((i : ℕ) → i < length l → f i ≡ g i) → xorPad f l ≡ xorPad g l
@@ -116,6 +127,12 @@ pad-append f (x ∷ a) b =
     (pad-append (λ i. f (suc i)) a b
     ∙ ap (λ (r : List ℕ). xorPad (λ i. f (suc i)) a ++ r)
     (pad-ext (λ i. f (suc (length a + i))) (λ i. f (suc (length a) + i)) b (λ i h. ap f (omega arith))))
+
+-- a pad of 0 changes nothing
+pub pad-none : (f : ℕ → ℕ) (l : List ℕ) → ((i : ℕ) → i < length l → f i ≡ 0) → xorPad f l ≡ l
+pad-none f [] h = refl
+pad-none f (x ∷ l) h =
+    ap₂ (λ (a : ℕ) (r : List ℕ). a ∷ r) (ap (λ (a : ℕ). x ⊕ a) (h 0 (omega arith)) ∙ xor-zero-r x) (pad-none (λ i. f (suc i)) l (λ i b. h (suc i) (omega arith)))
 
 -- one pad after another is their xor
 pub pad-pad : (f g : ℕ → ℕ) (l : List ℕ) → xorPad g (xorPad f l) ≡ xorPad (λ i. f i ⊕ g i) l
@@ -146,3 +163,8 @@ pub xor-lists-assoc : (a b c : List ℕ) → length a ≡ length b → xorList (
 xor-lists-assoc a b c e =
     pad-pad (λ i. getD b i 0) (λ i. getD c i 0) a
     ∙ pad-ext (λ i. getD b i 0 ⊕ getD c i 0) (λ i. getD (xorList b c) i 0) a (λ i h. sym (pad-at (λ k. getD c k 0) b i (omega arith)))
+
+-- the bytes of a xor
+pub to-xor : (n a b : ℕ) → toBytes n (a ⊕ b) ≡ xorList (toBytes n a) (toBytes n b)
+to-xor zero a b = refl
+to-xor (suc n) a b = ap₂ (λ (x : ℕ) (r : List ℕ). x ∷ r) (xor-byte n a b) (to-xor n a b)

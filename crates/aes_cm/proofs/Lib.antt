@@ -1,0 +1,5 @@
+pub mod Counters
+pub mod Stretches
+pub mod Walks
+pub mod Streams
+pub mod Derived

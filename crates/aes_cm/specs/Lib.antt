@@ -1,0 +1,4 @@
+pub mod Keystream
+pub mod Derivation
+pub mod Claims
+pub mod Steps
