@@ -1,14 +1,13 @@
--- What is claimed of the definitions themselves, for any keystream.
+-- What is claimed of the definitions themselves.
 use mathlib.Core.Path.{_≡_}
 use mathlib.Core.List.{List}
 use Prim.Native.Nat.{ℕ, _+_, _/_, _≤_, _<_}
 use lib.ListN.{length, getD}
 use Rattle.bits.specs.Xor.{xorPad}
-use Rattle.aes_cm.specs.Keystream.{portionPad}
 use Rattle.aes_cm.specs.Steps.{stretchPad}
 
 pub record Stretches : Type 0 where
-  -- applied twice it gives the bytes back, and the length stays
+  -- any pad applied twice gives the bytes back, and the length stays
   pub undone : (pad : ℕ → ℕ) (l : List ℕ) → xorPad pad (xorPad pad l) ≡ l
   pub same-length : (pad : ℕ → ℕ) (l : List ℕ) → length (xorPad pad l) ≡ length l
   -- two neighbouring stretches are the joined one
@@ -22,5 +21,6 @@ pub record Stretches : Type 0 where
 abbrev pub blocksFor : ℕ → ℕ
 blocksFor n = (n + 15) / 16
 
+-- the largest packet, of 2,048 bytes, takes 128 blocks at the most
 pub record FewBlocks : Type 0 where
   pub few : (n : ℕ) → n ≤ 2048 → blocksFor n ≤ 128

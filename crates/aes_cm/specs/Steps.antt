@@ -9,7 +9,7 @@ use Rattle.aes.specs.Cipher.{cipherOf}
 use Rattle.aes_cm.specs.declared.keystream.Keystream.{Keystream}
 use Rattle.aes_cm.specs.Keystream.{bytesOf}
 
--- the IV with block number j in its last two bytes
+-- the IV with block number j in its last two bytes, which is IV + j for an IV that ends in two zero bytes and j below 2^16
 abbrev pub numberedOf : List (List ℕ) → ℕ → List (List ℕ)
 numberedOf iv j =
     getD iv 0 [] ∷ getD iv 1 [] ∷ getD iv 2 []
@@ -23,7 +23,7 @@ blockBy ks iv j = bytesOf (cipherOf (numberedOf iv j) ks)
 unfoldable pub byteBy : List (List (List ℕ)) → List (List ℕ) → ℕ → ℕ
 byteBy ks iv k = getD (blockBy ks iv (k / 16)) (k % 16) 0
 
--- how many bytes a block has from byte `from` on, for a stretch of `left` bytes
+-- the bytes to take from one block: the smaller of `left` and the 16 - from that remain
 abbrev pub spanOf : ℕ → ℕ → ℕ
 spanOf from left = pick (ltb left (16 - from)) left (16 - from)
 
@@ -31,6 +31,6 @@ spanOf from left = pick (ltb left (16 - from)) left (16 - from)
 pub record Holds (ks : List (List (List ℕ))) (iv : List (List ℕ)) (s : Keystream) : Type 0 where
   pub block : (s .at % 16 ≡ 0 → ⊥) → s .block ≡ blockBy ks iv (s .at / 16)
 
--- the pad of a stretch: the places from a up to e, with the keystream from byte o on
+-- the pad of a stretch: the places from a up to but not including e, with the keystream from byte o on
 unfoldable pub stretchPad : ℕ → ℕ → ℕ → (ℕ → ℕ) → ℕ → ℕ
 stretchPad a e o stream i = pick (ltb i a) 0 (pick (ltb i e) (stream (o + (i - a))) 0)
