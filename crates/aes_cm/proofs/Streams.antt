@@ -1,6 +1,6 @@
 -- The keystream of a key, a salt, an SSRC and an index, from its round keys and its first counter block.
-use mathlib.Core.Path.{_≡_, refl, sym, ap, ap₂, _∙_}
-use mathlib.Core.List.{List, [], _∷_, _++_}
+use mathlib.Core.Path.{_≡_, sym, ap, ap₂, _∙_}
+use mathlib.Core.List.{List}
 use Prim.Native.Nat.{ℕ, _+_, _-_, _/_, _%_, _^_, _≤_, _<_}
 use native.Mathlib.Decide.{decLt}
 use native.Mathlib.Omega.{arith}
@@ -9,13 +9,12 @@ use borrow.Author.Tests.{lt-ltb, le-ltb}
 use lib.Dec.{T}
 use lib.ListN.{length, getD}
 use lib.Pow.{areBytes}
-use Rattle.bits.specs.Lists.{tabulate}
 use Rattle.bits.specs.Xor.{xorPad}
 use Rattle.bits.proofs.Xor.{pad-ext}
 use Rattle.aes.specs.Cipher.{cipherOf}
 use Rattle.aes.specs.Keys.{roundKeysOf}
 use Rattle.aes_cm.specs.Keystream.{stateOf, bytesOf, counterOf, blockOf, keystreamOf, portionPad}
-use Rattle.aes_cm.specs.Steps.{numberedOf, blockBy, byteBy, stretchPad}
+use Rattle.aes_cm.specs.Steps.{blockBy, byteBy, stretchPad}
 use Rattle.aes_cm.proofs.Counters.{numbered}
 use Rattle.aes_cm.proofs.Stretches.{at-before, at-past, at-in, pad-join}
 

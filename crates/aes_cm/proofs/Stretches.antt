@@ -1,28 +1,17 @@
--- Stretches of a keystream: the pad at each place, a loop that works through one, and stretches that meet.
+-- Stretches of a keystream: the pad at each place, and stretches that meet.
 use mathlib.Core.Path.{_≡_, refl, sym, ap, ap₂, _∙_}
 use mathlib.Core.Logic.{_⊎_, inl, inr, ⊎-elim}
 use mathlib.Core.List.{List, [], _∷_, _++_}
-use Prim.Native.Nat.{ℕ, zero, suc, _+_, _-_, _≤_, _<_}
+use Prim.Native.Nat.{ℕ, suc, _+_, _-_, _≤_, _<_}
 use native.Mathlib.Decide.{decLt}
 use native.Mathlib.Omega.{arith}
 use borrow.Author.Tests.{lt-ltb, le-ltb}
 use lib.Bits.{bitXor, xor-zero-r}
-use lib.ListN.{length, getD, set, take, drop, length-drop, length-set, take-append-drop}
+use lib.ListN.{length, take, drop, length-drop, take-append-drop}
 use lib.Seq.{length-take-le}
-use Rattle.bits.specs.Xor.{_⊕_, xorPad}
+use Rattle.bits.specs.Xor.{xorPad}
 use Rattle.bits.proofs.Xor.{pad-ext, pad-append, pad-none}
 use Rattle.aes_cm.specs.Steps.{stretchPad}
-
--- a byte done: the pad f is still to come, then g
-pub pad-set : (f g : ℕ → ℕ) (l : List ℕ) (i : ℕ) → i < length l → g i ≡ 0 → ((j : ℕ) → (j ≡ i → ⊥) → g j ≡ f j)
-    → xorPad g (set l i (getD l i 0 ⊕ f i)) ≡ xorPad f l
-pad-set f g [] i h z o = absurd (omega arith)
-pad-set f g (x ∷ l) zero h z o =
-    ap₂ (λ (a : ℕ) (b : List ℕ). a ∷ b) (ap (λ (a : ℕ). bitXor (bitXor x (f 0)) a) z ∙ xor-zero-r (bitXor x (f 0)))
-    (pad-ext (λ i. g (suc i)) (λ i. f (suc i)) l (λ j b. o (suc j) (λ e. omega arith)))
-pad-set f g (x ∷ l) (suc i) h z o =
-    ap₂ (λ (a : ℕ) (b : List ℕ). bitXor x a ∷ b) (o 0 (λ e. omega arith))
-    (pad-set (λ j. f (suc j)) (λ j. g (suc j)) l i (omega arith) z (λ j e. o (suc j) (λ q. e (omega arith))))
 
 -- two pads, of which one is 0 at each place
 pub pad-join : (f g h : ℕ → ℕ) (l : List ℕ) → ((i : ℕ) → i < length l → ((f i ≡ 0) × (g i ≡ h i)) ⊎ ((g i ≡ 0) × (f i ≡ h i)))
@@ -46,24 +35,6 @@ at-past a e o ks i h k = simp (le-ltb i a h, le-ltb i e k)
 pub at-in : (a e o : ℕ) (ks : ℕ → ℕ) (i k : ℕ) → a ≤ i → i < e → k + a ≡ o + i → stretchPad a e o ks i ≡ ks k
 unfolding stretchPad
 at-in a e o ks i k h l q = let m : o + (i - a) ≡ k = omega arith in simp (le-ltb i a h, lt-ltb i e l, m)
-
--- one more byte
-pub stretch-next : (e : ℕ) (ks : ℕ → ℕ) (l : List ℕ) (i k : ℕ) → i < e → e ≤ length l
-    → xorPad (stretchPad (i + 1) e (k + 1) ks) (set l i (bitXor (getD l i 0) (ks k))) ≡ xorPad (stretchPad i e k ks) l
-stretch-next e ks l i k h n =
-    let m : stretchPad i e k ks i ≡ ks k = at-in i e k ks i k (omega arith) h (omega arith) in
-    ap (λ (v : ℕ). xorPad (stretchPad (i + 1) e (k + 1) ks) (set l i (bitXor (getD l i 0) v))) (sym m)
-    ∙ pad-set (stretchPad i e k ks) (stretchPad (i + 1) e (k + 1) ks) l i (omega arith) (at-before (i + 1) e (k + 1) ks i (omega arith)) other
-  where
-    other : (j : ℕ) → (j ≡ i → ⊥) → stretchPad (i + 1) e (k + 1) ks j ≡ stretchPad i e k ks j
-    other j d =
-        elim (decLt j i) [
-          | yes b ↦ at-before (i + 1) e (k + 1) ks j (omega arith) ∙ sym (at-before i e k ks j b)
-          | no b ↦ elim (decLt j e) [
-            | yes u ↦ at-in (i + 1) e (k + 1) ks j (k + (j - i)) (omega arith) u (omega arith) ∙ sym (at-in i e k ks j (k + (j - i)) (omega arith) u (omega arith))
-            | no u ↦ at-past (i + 1) e (k + 1) ks j (omega arith) (omega arith) ∙ sym (at-past i e k ks j (omega arith) (omega arith))
-          ]
-        ]
 
 pub stretch-done : (a e o : ℕ) (ks : ℕ → ℕ) (l : List ℕ) → e ≤ a → xorPad (stretchPad a e o ks) l ≡ l
 stretch-done a e o ks l h =
@@ -106,30 +77,3 @@ stretch-part a e o ks l ys h n ey =
     ∙ ap₂ (λ (u v : List ℕ). u ++ v)
     (pad-ext (λ i. f (length p + i)) (λ k. ks (o + k)) q (λ i b. at-in a e o ks (length p + i) (o + i) (omega arith) (omega arith) (omega arith)) ∙ sym ey)
     (pad-none (λ i. f (length p + (length q + i))) r (λ i b. at-past a e o ks (length p + (length q + i)) (omega arith) (omega arith)))))
-
--- ---- a loop from the front of a list, and then the whole of it
-
--- what is still to do, applied to the present list, is the goal
-pub record Running (ks : ℕ → ℕ) (l₀ l : List ℕ) (i : ℕ) : Type 0 where
-  pub upto : i ≤ length l₀
-  pub size : length l ≡ length l₀
-  pub left : xorPad (stretchPad i (length l₀) i ks) l ≡ xorPad ks l₀
-
-pub running-start : (ks : ℕ → ℕ) (l : List ℕ) → Running ks l l 0
-running-start ks l =
-    record {
-      upto = omega arith;
-      size = refl;
-      left = pad-ext (stretchPad 0 (length l) 0 ks) ks l (λ i b. at-in 0 (length l) 0 ks i i (omega arith) b (omega arith));
-    }
-
-pub running-next : (ks : ℕ → ℕ) (l₀ l : List ℕ) (i : ℕ) → i < length l₀ → Running ks l₀ l i → Running ks l₀ (set l i (getD l i 0 ⊕ ks i)) (i + 1)
-running-next ks l₀ l i h r =
-    record {
-      upto = omega arith;
-      size = length-set l i (getD l i 0 ⊕ ks i) ∙ r .size;
-      left = stretch-next (length l₀) ks l i i h (omega (arith, r .size)) ∙ r .left;
-    }
-
-pub running-end : (ks : ℕ → ℕ) (l₀ l : List ℕ) (i : ℕ) → length l₀ ≤ i → Running ks l₀ l i → l ≡ xorPad ks l₀
-running-end ks l₀ l i h r = sym (stretch-done i (length l₀) i ks l h) ∙ r .left

@@ -1,14 +1,12 @@
 -- The loop over the blocks of a stretch.
 use mathlib.Core.Path.{_≡_, refl, sym, ap, ap₂, _∙_}
-use mathlib.Core.List.{List, [], _++_}
+use mathlib.Core.List.{List, _++_}
 use Prim.Native.Nat.{ℕ, _+_, _-_, _/_, _%_, _≤_, _<_}
 use native.Mathlib.Omega.{arith}
 use native.Mathlib.Decide.{decLt}
 use borrow.Author.Tests.{lt-ltb, le-ltb}
-use lib.Dec.{ltb}
 use lib.ListN.{length, getD, take, drop, length-drop}
 use lib.Seq.{length-take-le}
-use Rattle.bits.specs.Pick.{pick}
 use Rattle.bits.specs.Xor.{xorPad}
 use Rattle.bits.proofs.Xor.{length-pad, pad-ext}
 use Rattle.aes_cm.specs.declared.keystream.Keystream.{Keystream}

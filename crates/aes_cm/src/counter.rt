@@ -1,11 +1,10 @@
 // The counter block and the keystream block (RFC 3711, 4.1.1).
 use aes::cipher::encrypt;
 ghost use mathlib.Core.Path.{_≡_};
-ghost use Prim.Native.Nat.{_<_};
+ghost use Prim.Native.Nat.{_^_, _<_};
 ghost use Rattle.aes.specs.Steps.{SboxTable, RoundTable};
 ghost use Rattle.aes_cm.specs.Keystream.{stateOf, bytesOf, counterOf};
-ghost use Rattle.aes_cm.specs.Steps.{numberedOf, blockBy};
-ghost use Prim.Native.Nat.{_^_};
+ghost use Rattle.aes_cm.specs.Steps.{blockBy};
 
 // The state that is the input of block 0.
 pub fn iv(salt: [u8; 14], ssrc: u32, index: u64) -> [[u8; 4]; 4]

@@ -1,6 +1,5 @@
 // The keystream of a packet onto a portion with a gap, which runs to the end of the buffer.
 use crate::counter::iv;
-use crate::counter::keystream_block;
 use crate::counter::state;
 use crate::keystream::Keystream;
 use crate::keystream::xor_stretch;

@@ -3,3 +3,4 @@ pub mod Bytes
 pub mod Xor
 pub mod BigEndian
 pub mod Table
+pub mod Running

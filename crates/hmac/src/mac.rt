@@ -6,7 +6,7 @@ use sha1::digest::digest;
 use sha1::message::finish;
 ghost use mathlib.Core.Path.{_≡_};
 ghost use mathlib.Core.List.{_++_};
-ghost use Prim.Native.Nat.{_+_, _≤_, _<_, _^_};
+ghost use Prim.Native.Nat.{_≤_, _<_, _^_};
 ghost use lib.ListN.{length};
 ghost use Rattle.sha1.specs.Message.{wordsIn, paddingOf};
 ghost use Rattle.sha1.specs.Hash.{digestOf};

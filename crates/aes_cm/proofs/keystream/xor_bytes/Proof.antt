@@ -3,7 +3,7 @@ use Prim.Native.Nat.{_+_, _-_}
 use native.Mathlib.Omega.{arith}
 use borrow.Author.Needs.{needs}
 use lib.ListN.{length, getD}
-use Rattle.aes_cm.proofs.Stretches.{Running, running-start, running-next, running-end}
+use Rattle.bits.proofs.Running.{Running, running-start, running-next, running-end}
 use Rattle.aes_cm.proofs.keystream.xor_bytes.Statement.{statement}
 use Rattle.aes_cm.proofs.keystream.xor_bytes.Tie as tie
 
