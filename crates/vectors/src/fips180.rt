@@ -7,21 +7,21 @@ use sha1::message::blocks;
 use sha1::message::finish;
 
 pub fn run() {
-    print::digest(b"sha1 1 ", sha1(b""));
-    print::digest(b"sha1 2 ", sha1(b"abc"));
-    print::digest(
+    print::bytes(b"sha1 1 ", &sha1(b""));
+    print::bytes(b"sha1 2 ", &sha1(b"abc"));
+    print::bytes(
         b"sha1 3 ",
-        sha1(b"abcdbcdecdefdefgefghfghighijhijkijkljklmklmnlmnomnopnopq"),
+        &sha1(b"abcdbcdecdefdefgefghfghighijhijkijkljklmklmnlmnomnopnopq"),
     );
-    print::digest(
+    print::bytes(
         b"sha1 4 ",
-        sha1(
+        &sha1(
             b"abcdefghbcdefghicdefghijdefghijkefghijklfghijklmghijklmnhijklmnoijklmnopjklmnopqklmnopqrlmnopqrsmnopqrstnopqrstu",
         ),
     );
-    print::digest(
+    print::bytes(
         b"sha1 million ",
-        digest(finish(million(), 1000000, b"", b"")),
+        &digest(finish(million(), 1000000, b"", b"")),
     );
 }
 

@@ -6,6 +6,7 @@ mod fips197;
 mod print;
 mod rfc2202;
 mod rfc3711;
+mod rfc6904;
 mod sp800_38a;
 
 fn main() {
@@ -14,4 +15,5 @@ fn main() {
     fips180::run();
     rfc2202::run();
     rfc3711::run();
+    rfc6904::run();
 }

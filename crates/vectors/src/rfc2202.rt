@@ -14,27 +14,27 @@ pub fn run() {
 
 fn case1() {
     let key = [0x0bu8; 20];
-    print::digest(b"hmac 1 ", hmac(&key, b"Hi T", b"here"));
+    print::bytes(b"hmac 1 ", &hmac(&key, b"Hi T", b"here"));
 }
 
 fn case2() {
-    print::digest(
+    print::bytes(
         b"hmac 2 ",
-        hmac(b"Jefe", b"what do ya want for noth", b"ing?"),
+        &hmac(b"Jefe", b"what do ya want for noth", b"ing?"),
     );
 }
 
 fn case3() {
     let key = [0xaau8; 20];
     let message = [0xddu8; 46];
-    print::digest(b"hmac 3 ", hmac(&key, &message, b"\xdd\xdd\xdd\xdd"));
+    print::bytes(b"hmac 3 ", &hmac(&key, &message, b"\xdd\xdd\xdd\xdd"));
 }
 
 fn case4() {
     let message = [0xcdu8; 46];
-    print::digest(
+    print::bytes(
         b"hmac 4 ",
-        hmac(
+        &hmac(
             b"\x01\x02\x03\x04\x05\x06\x07\x08\x09\x0a\x0b\x0c\x0d\x0e\x0f\x10\x11\x12\x13\x14\x15\x16\x17\x18\x19",
             &message,
             b"\xcd\xcd\xcd\xcd",
@@ -44,14 +44,14 @@ fn case4() {
 
 fn case5() {
     let key = [0x0cu8; 20];
-    print::digest(b"hmac 5 ", hmac(&key, b"Test With Trunca", b"tion"));
+    print::bytes(b"hmac 5 ", &hmac(&key, b"Test With Trunca", b"tion"));
 }
 
 fn case6() {
     let key = [0xaau8; 80];
-    print::digest(
+    print::bytes(
         b"hmac 6 ",
-        hmac(
+        &hmac(
             &key,
             b"Test Using Larger Than Block-Size Key - Hash Key F",
             b"irst",
@@ -61,9 +61,9 @@ fn case6() {
 
 fn case7() {
     let key = [0xaau8; 80];
-    print::digest(
+    print::bytes(
         b"hmac 7 ",
-        hmac(
+        &hmac(
             &key,
             b"Test Using Larger Than Block-Size Key and Larger Than One Block-Size ",
             b"Data",

@@ -1,12 +1,12 @@
-// RFC 3711, appendices B.2 (keystream) and B.3 (key derivation), and RFC 6904, appendices A.1 and A.2.
+// RFC 3711, appendices B.2 (keystream) and B.3 (key derivation).
 use crate::print;
 use aes::key_schedule::expand;
 use aes::tables;
 use aes_cm::counter::iv;
 use aes_cm::counter::keystream_block;
 use aes_cm::counter::state;
+use aes_cm::derivation::SessionKeys;
 use aes_cm::derivation::derive;
-use aes_cm::portion::xor_portion;
 
 // Block j of B.2's keystream, SSRC 0 and index 0.
 fn block(j: usize) -> [u8; 16] {
@@ -19,36 +19,29 @@ fn block(j: usize) -> [u8; 16] {
 }
 
 fn keystream() {
-    print::bytes16(b"cm 0 ", block(0));
-    print::bytes16(b"cm 1 ", block(1));
-    print::bytes16(b"cm 2 ", block(2));
-    print::bytes16(b"cm 65279 ", block(65279));
-    print::bytes16(b"cm 65280 ", block(65280));
-    print::bytes16(b"cm 65281 ", block(65281));
+    print::bytes(b"cm 0 ", &block(0));
+    print::bytes(b"cm 1 ", &block(1));
+    print::bytes(b"cm 2 ", &block(2));
+    print::bytes(b"cm 65279 ", &block(65279));
+    print::bytes(b"cm 65280 ", &block(65280));
+    print::bytes(b"cm 65281 ", &block(65281));
+}
+
+// The master key and salt of B.3, which RFC 6904 takes over.
+pub fn session_keys() -> SessionKeys {
+    let key = *b"\xe1\xf9\x7a\x0d\x3e\x01\x8b\xe0\xd6\x4f\xa3\x2c\x06\xde\x41\x39";
+    let salt = *b"\x0e\xc6\x75\xad\x49\x8a\xfe\xeb\xb6\x96\x0b\x3a\xab\xe6";
+    derive(key, salt)
 }
 
 fn derivation() {
-    let key = *b"\xe1\xf9\x7a\x0d\x3e\x01\x8b\xe0\xd6\x4f\xa3\x2c\x06\xde\x41\x39";
-    let salt = *b"\x0e\xc6\x75\xad\x49\x8a\xfe\xeb\xb6\x96\x0b\x3a\xab\xe6";
-    let k = derive(key, salt);
+    let k = session_keys();
     let cipher = k.cipher;
     let auth = k.auth;
-    let s = k.salt;
-    let header = k.header_cipher;
-    let t = k.header_salt;
-    print::bytes16(b"kdf 0 ", cipher);
-    print::bytes14(b"kdf 2 ", s);
-    print::digest(b"kdf 1 ", auth);
-    print::bytes16(b"kdf 6 ", header);
-    print::bytes14(b"kdf 7 ", t);
-    header_keystream(header, t);
-}
-
-// The first 24 bytes of the header keystream: SSRC cafebabe, sequence number 1234, rollover counter 0.
-fn header_keystream(key: [u8; 16], salt: [u8; 14]) {
-    let mut buf = [0u8; 24];
-    xor_portion(key, salt, 0xcafebabe, 0x1234, &mut buf, 0, 0, 0);
-    print::bytes24(b"header keystream ", buf);
+    let salt = k.salt;
+    print::bytes(b"kdf 0 ", &cipher);
+    print::bytes(b"kdf 2 ", &salt);
+    print::bytes(b"kdf 1 ", &auth);
 }
 
 pub fn run() {

@@ -1,0 +1,7 @@
+pub mod Header
+pub mod Elements
+pub mod Finding
+pub mod Mask
+pub mod Claims
+pub mod Sums
+pub mod Steps

@@ -1,0 +1,46 @@
+// Encrypting and decrypting chosen elements of a header extension in place.
+use crate::element::Found;
+use crate::element::next;
+ghost use mathlib.Core.Path.{_≡_};
+ghost use mathlib.Core.Bool.{true, false};
+ghost use Prim.Native.Nat.{_≤_};
+ghost use lib.ListN.{length, getD};
+ghost use Rattle.bits.specs.Xor.{xorList};
+ghost use Rattle.rtp.specs.Elements.{wholeOf};
+ghost use Rattle.rtp.specs.Mask.{maskedOf};
+
+fn xor_bytes(part: &mut [u8], pad: &[u8])
+    requires { ⌜ length (now part) ≤ length (now pad) ⌝ }
+    ensures { λ _. ⌜ now (part .exit) ≡ xorList (now (part .entry)) (now (pad .entry)) ⌝ }
+{
+    let mut k: usize = 0;
+    while k < part.len() {
+        part[k] = part[k] ^ pad[k];
+        k += 1;
+    }
+}
+
+fn is_listed(listed: &[bool; 256], id: u8) -> bool
+    ensures { λ r. ⌜ r ≡ getD (now (listed .entry)) id false ⌝ }
+{
+    listed[id as usize]
+}
+
+// XORs the data of listed elements with the bytes of a pad that stand at the same places; the rest of the block stays.
+pub fn mask(block: &mut [u8], tag: u16, listed: &[bool; 256], pad: &[u8])
+    requires { ⌜ (wholeOf tag (now block) ≡ true) × (length (now block) ≤ length (now pad)) ⌝ }
+    ensures { λ _. ⌜ now (block .exit) ≡ maskedOf (λ id. getD (now (listed .entry)) id false) tag (λ k. getD (now (pad .entry)) k 0) (now (block .entry)) ⌝ }
+{
+    let mut i: usize = 0;
+    while i < block.len() {
+        let Found::At(element) = next(block, tag, i) else {
+            return;
+        };
+        let begin = element.begin;
+        let end = begin + element.length;
+        if is_listed(listed, element.id) {
+            xor_bytes(&mut block[begin..end], &pad[begin..end]);
+        }
+        i = end;
+    }
+}
