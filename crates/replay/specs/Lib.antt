@@ -1,0 +1,10 @@
+pub mod Answers
+pub mod Guess
+pub mod Window
+pub mod State
+pub mod Receive
+pub mod Send
+pub mod Ledger
+pub mod Claims
+pub mod Sums
+pub mod Steps

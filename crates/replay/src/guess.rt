@@ -1,0 +1,53 @@
+// The index guess of a receiver (RFC 3711, 3.3.1), told as a signed distance from the highest accepted index.
+ghost use mathlib.Core.Path.{_≡_};
+ghost use Prim.Native.Nat.{_^_, _<_, _≤_};
+ghost use lib.IntN.{subℕ, natAbs};
+ghost use Rattle.replay.specs.Guess.{distanceOf};
+ghost use Rattle.replay.specs.Steps.{offsetOf};
+
+// The guessed index is `highest + up - down`. Two unsigned numbers, so that the index can be tested against 0 before it is made.
+pub(crate) struct Offset {
+    pub(crate) up: u32,
+    pub(crate) down: u32,
+}
+
+// The one place where unsigned numbers become a signed one.
+pub(crate) fn difference(a: u32, b: u32) -> i32
+    requires { ⌜ (a < 2 ^ 31) × (b < 2 ^ 31) ⌝ }
+    ensures { λ r. ⌜ r ≡ subℕ a b ⌝ }
+{
+    (a as i32) - (b as i32)
+}
+
+// From the low 16 bits of the highest accepted index to the sequence number, with a rollover on the side that the guess puts it.
+pub(crate) fn guess(highest: u64, sequence: u16) -> Offset
+    ensures { λ r. ⌜ r ≡ offsetOf highest sequence ⌝ }
+{
+    let s = (highest % 65536) as u32;
+    let seq = sequence as u32;
+    if s < 32768 {
+        if s + 32768 < seq {
+            return Offset {
+                up: seq,
+                down: s + 65536,
+            };
+        }
+        return Offset { up: seq, down: s };
+    }
+    if seq + 32768 < s {
+        return Offset {
+            up: seq + 65536,
+            down: s,
+        };
+    }
+    Offset { up: seq, down: s }
+}
+
+// From -32,768 to 32,768, for any number as the highest index.
+pub fn distance(highest: u64, sequence: u16) -> i32
+    ensures { λ r. ⌜ r ≡ distanceOf highest sequence ⌝ }
+    ensures { λ r. ⌜ natAbs r ≤ 32768 ⌝ }
+{
+    let o = guess(highest, sequence);
+    difference(o.up, o.down)
+}
