@@ -2,7 +2,7 @@
 use mathlib.Core.Path.{_≡_}
 use mathlib.Core.Bool.{true, false}
 use Prim.Native.Nat.{ℕ, _+_, _*_, _^_, _<_, _≤_}
-use lib.IntN.{ℤ, pos, negsuc, natAbs, _+ℤ_}
+use lib.IntN.{pos, negsuc, natAbs, _+ℤ_}
 use Rattle.bits.specs.declared.refusal.Refusal.{Refusal}
 use Rattle.replay.specs.declared.answer.Judged.{Judged}
 use Rattle.replay.specs.declared.answer.Judged.the-variants.{Index, Refused}

@@ -1,5 +1,5 @@
 // Published test vectors, run through the proved code: the file `stdout` beside src/ has what was published.
-// Follows FIPS 197 (appendices B and C.1), SP 800-38A (F.1.1), FIPS 180 (examples), RFC 2202 (section 3), RFC 3711 (B.2, B.3) and RFC 6904 (A.1, A.2).
+// Follows FIPS 197 (appendices B and C.1), SP 800-38A (F.1.1), FIPS 180 (examples), RFC 2202 (section 3), RFC 3711 (B.2, B.3), RFC 6904 (A.1, A.2) and RFC 9335 (A.1).
 mod examples;
 mod fips180;
 mod fips197;
@@ -7,6 +7,7 @@ mod print;
 mod rfc2202;
 mod rfc3711;
 mod rfc6904;
+mod rfc9335;
 mod sp800_38a;
 
 fn main() {
@@ -16,4 +17,5 @@ fn main() {
     rfc2202::run();
     rfc3711::run();
     rfc6904::run();
+    rfc9335::run();
 }

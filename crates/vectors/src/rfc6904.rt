@@ -6,7 +6,7 @@ use libc::STDOUT_FILENO;
 use rtp::find::find;
 use rtp::mask::mask;
 
-fn listed() -> [bool; 256] {
+pub fn listed() -> [bool; 256] {
     let mut ids = [false; 256];
     ids[1] = true;
     ids[3] = true;

@@ -1,0 +1,110 @@
+-- `packet::protect::unprotect_packet` meets its contract.
+use mathlib.Core.Path.{_≡_, refl, sym, _∙_}
+use mathlib.Core.Bool.{false}
+use Prim.Native.Nat.{_-_}
+use native.Mathlib.Omega.{arith}
+use borrow.Author.Tests.{not-true, not-false}
+use lib.ListN.{getD}
+use Rattle.packet.proofs.Arriving.{long, read, fits, small, elements, tag-fits, restored}
+use borrow.Author.Needs.{needs}
+use Rattle.packet.proofs.protect.unprotect_packet.Statement.{statement}
+use Rattle.packet.proofs.protect.unprotect_packet.Tie as tie
+
+sub-m : tie.Need-sub-m
+sub-m c = let s = c .before in omega (arith, long (s .args .policy) 10 (s .args .buf .now) (s .args .n) (s .args .h) (s .pre .1 .0) (s .pre .1 .1))
+
+sub-code : tie.Need-sub-code
+sub-code c = search needs
+
+part-code-start : tie.Need-part-code-start
+part-code-start c = search needs
+
+part-code-end : tie.Need-part-code-end
+part-code-end c = search needs
+
+code-requires : tie.Need-code-requires
+code-requires c κs =
+    let s = c .before .before .before .before in
+    let z : s .args .n - 10 - 0 ≡ s .args .n - 10 = omega arith in
+    (s .pre .0, rw z (small (s .args .policy) 10 (s .args .buf .now) (s .args .n) (s .args .h) (s .pre .1 .0) (s .pre .1 .1)))
+
+sub-same : tie.Need-sub-same
+sub-same c = search needs
+
+part-same-start : tie.Need-part-same-start
+part-same-start c = search needs
+
+part-same-end : tie.Need-part-same-end
+part-same-end c = search needs
+
+sub-same-2 : tie.Need-sub-same-2
+sub-same-2 c = search needs
+
+part-same-start-2 : tie.Need-part-same-start-2
+part-same-start-2 c = search needs
+
+part-same-end-2 : tie.Need-part-same-end-2
+part-same-end-2 c = search needs
+
+same-requires : tie.Need-same-requires
+same-requires c κs = search needs
+
+same-length : tie.Need-same-length
+same-length c = search needs
+
+returns : tie.Need-returns
+returns c =
+    let s = c .before .before .before .before .before .before .before .before .before .before .before in
+    let f = tag-fits (s .args .policy) 10 (s .args .buf .now) (s .args .n) (s .args .h) (s .pre .1 .0) (s .pre .1 .1) (s .args .keys) (s .args .index) _ (c .before .before .before .before .before .before .code .ensures) in
+    (sym (not-true _ (c .if1 .taken)) ∙ c .before .same .ensures ∙ f, refl)
+
+sub-decrypt : tie.Need-sub-decrypt
+sub-decrypt c = search needs
+
+part-decrypt-start : tie.Need-part-decrypt-start
+part-decrypt-start c = search needs
+
+part-decrypt-end : tie.Need-part-decrypt-end
+part-decrypt-end c = search needs
+
+decrypt-requires : tie.Need-decrypt-requires
+decrypt-requires c κs =
+    let s = c .before .before .before .before .before .before .before .before .before .before .before .before in
+    let z : s .args .n - 10 - 0 ≡ s .args .n - 10 = omega arith in
+    ((rw z (read (s .args .policy) 10 (s .args .buf .now) (s .args .n) (s .args .h) (s .pre .1 .0) (s .pre .1 .1)), (rw z (fits (s .args .policy) 10 (s .args .buf .now) (s .args .n) (s .args .h) (s .pre .1 .0) (s .pre .1 .1)), rw z (small (s .args .policy) 10 (s .args .buf .now) (s .args .n) (s .args .h) (s .pre .1 .0) (s .pre .1 .1)))), (s .pre .0, rw z (elements (s .args .policy) 10 (s .args .buf .now) (s .args .n) (s .args .h) (s .pre .1 .0) (s .pre .1 .1))))
+
+same-length-2 : tie.Need-same-length-2
+same-length-2 c = search needs
+
+returns-2 : tie.Need-returns-2
+returns-2 c =
+    let s = c .before .before .before .before .before .before .before .before .before .before .before .before .before .before .before in
+    let f = tag-fits (s .args .policy) 10 (s .args .buf .now) (s .args .n) (s .args .h) (s .pre .1 .0) (s .pre .1 .1) (s .args .keys) (s .args .index) _ (c .before .before .before .before .before .before .before .before .before .before .code .ensures) in (
+      sym (not-false _ (c .before .before .before .before .if1 .left)) ∙ c .before .before .before .before .before .same .ensures ∙ f,
+      restored (s .args .policy) 10 (s .args .buf .now) (s .args .n) (s .args .h) (s .pre .1 .0) (s .pre .1 .1) (s .args .keys) (λ id. getD (s .args .ids .now) id false) (s .args .ssrc) (s .args .index) _ (c .before .before .decrypt .ensures),
+    )
+
+pub unprotect-packet-spec : {M : Type 1} → statement M
+unprotect-packet-spec =
+    tie.close
+    (tie.spec
+    sub-m
+    sub-code
+    part-code-start
+    part-code-end
+    code-requires
+    sub-same
+    part-same-start
+    part-same-end
+    sub-same-2
+    part-same-start-2
+    part-same-end-2
+    same-requires
+    same-length
+    returns
+    sub-decrypt
+    part-decrypt-start
+    part-decrypt-end
+    decrypt-requires
+    same-length-2
+    returns-2)
