@@ -101,7 +101,7 @@ pub record Ready (policy : Policy) (p : List ℕ) : Type 0 where
 -- the form on the wire: its layout is that of p but for the tag
 pub record Tagged (policy : Policy) (p q : List ℕ) : Type 0 where
   pub size : length q ≡ length p
-  pub first : getD q 0 0 ≡ getD p 0 0
+  pub fixed : (i : ℕ) → i < 12 → getD q i 0 ≡ getD p i 0
   pub payload : layoutOf q .payload ≡ layoutOf p .payload
   pub profile : (usesCryptex policy && layoutOf q .x) ≡ true → isCryptexTag (layoutOf q .tag) ≡ true
   pub undone : untaggedOf policy q ≡ p
@@ -112,7 +112,7 @@ tagged-to : (policy : Policy) (p : List ℕ) (v w : ℕ) → hasExtension p ≡ 
 tagged-to policy p v w x fits uses says plain e bytes =
     record {
       size = written-length p (pastContributors p) v;
-      first = written-other p (pastContributors p) v 0 (inl (omega arith));
+      fixed = λ i h. written-other p (pastContributors p) v i (inl (omega arith));
       payload = rw (retagged-layout p v x fits, with-x p x);
       profile = λ u. rw (retagged-layout p v x fits) says;
       undone = back policy p v w x fits uses says plain e bytes;
@@ -137,7 +137,7 @@ tag-by policy p d false e =
     rw e
     (record {
       size = refl;
-      first = refl;
+      fixed = λ i h. refl;
       payload = refl;
       profile = λ u. let z : _≡_ {A = Bool} true false = sym u ∙ e in apart cc;
       undone = unfold untaggedOf in rw (and-assoc (usesCryptex policy) (layoutOf p .x) (isCryptexTag (layoutOf p .tag)), e);
@@ -189,6 +189,10 @@ module _ (p : List ℕ) (x : hasExtension p ≡ false) (fits : pastContributors 
   unfolding raised
   added-first = before 0 (omega arith) ∙ getD-set-same p 0 (getD p 0 0 + 16) 0 (omega arith)
 
+  added-fixed : (i : ℕ) → 0 < i → i < 12 → getD (withBlock p (pastContributors p)) i 0 ≡ getD p i 0
+  unfolding raised
+  added-fixed i z h = before i (omega arith) ∙ getD-set-other p 0 i (getD p 0 0 + 16) 0 (λ e. omega arith)
+
   even : getD p 0 0 / 16 % 2 ≡ 0
   even = let e : getD p 0 0 / 16 % 2 ≡ 1 → ⊥ = eqb-false (getD p 0 0 / 16 % 2) 1 x in omega arith
 
@@ -237,6 +241,7 @@ module _ (p : List ℕ) (x : hasExtension p ≡ false) (fits : pastContributors 
 pub record GivenBack (policy : Policy) (p q : List ℕ) : Type 0 where
   pub ready : Ready policy q
   pub size : length q ≡ length p + pick (addsBlock policy (layoutOf p)) 4 0
+  pub fixed : (i : ℕ) → 0 < i → i < 12 → getD q i 0 ≡ getD p i 0
 
 given-by : (policy : Policy) (p : List ℕ) → Ready policy p → (t : Bool) → addsBlock policy (layoutOf p) ≡ t → GivenBack policy p (givenBackOf policy p)
 unfolding givenBackOf
@@ -259,8 +264,9 @@ given-by policy p d true e =
             bytes = added-byte p x f (d .version) (d .bytes);
           };
       size = rw e m;
+      fixed = added-fixed p x f;
     })
-given-by policy p d false e = rw e (record { ready = d; size = rw e (omega arith) })
+given-by policy p d false e = rw e (record { ready = d; size = rw e (omega arith); fixed = λ i z h. refl })
 
 pub given-back : (policy : Policy) (p : List ℕ) → Ready policy p → GivenBack policy p (givenBackOf policy p)
 given-back policy p d = given-by policy p d (addsBlock policy (layoutOf p)) refl

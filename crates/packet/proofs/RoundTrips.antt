@@ -2,17 +2,18 @@
 use mathlib.Core.Path.{_≡_, refl, ap, _∙_}
 use mathlib.Core.Bool.{Bool, true, false, not, _&&_, _||_}
 use mathlib.Core.Logic.{_⊎_, inl, inr}
-use mathlib.Core.List.{List, _++_}
+use mathlib.Core.List.{List, [], _∷_, _++_}
 use Prim.Native.Nat.{ℕ, _+_, _-_, _/_, _≤_, _<_, _^_}
 use native.Mathlib.Omega.{arith}
 use borrow.Author.Tests.{le-ltb, ltb-false, eqb-true, eq-eqb, not-false}
 use lib.Dec.{ltb, eqb}
 use lib.ListN.{length, getD, take, drop, length-append, length-take, length-drop, List·getD-append}
-use lib.Seq.{take-at, take-append-le, drop-append-le}
+use lib.Seq.{take-at, drop-at, take-append-le, drop-append-le}
 use Rattle.bits.specs.BigEndian.{toBytes}
 use Rattle.bits.specs.Pick.{pick}
 use Rattle.bits.specs.declared.refusal.Refusal.the-variants as refusal
 use Rattle.hmac.specs.Steps.{macOf}
+use Rattle.hmac.specs.Tag.{sameOf}
 use Rattle.rtp.specs.declared.header.Header.{Header}
 use Rattle.rtp.specs.declared.header.Header.the-variants.{Read, Refused}
 use Rattle.rtp.specs.declared.header.Layout.{Layout}
@@ -28,7 +29,7 @@ use Rattle.packet.specs.Claims.{Cipher, RoundTrip, AnyCipher, SentIsGive
 use Rattle.packet.specs.Cryptex.{isCryptexTag, givenBackOf, taggedOf, untaggedOf}
 use Rattle.packet.specs.Judging.{tailOf, profileFits, elementsFit, addedOf, sizeFits, judgedAfter, judgedOf}
 use Rattle.packet.specs.Policies.{usesCryptex, usesMask}
-use Rattle.packet.specs.Wire.{bodyBy, wireBy, restoreBy, streamOf, headerStreamOf, cipherOf, tagOf, wireOf, restoreOf}
+use Rattle.packet.specs.Wire.{bodyBy, wireBy, restoreBy, streamOf, headerStreamOf, cipherOf, tagOf, wireOf, restoreOf, tagFits}
 use Rattle.packet.proofs.Crypting.{crypted-stays, crypted-length, crypted-twice, whole-by}
 use Rattle.packet.proofs.Forms.{Ready, Tagged, tagged, GivenBack, given-back}
 use Rattle.packet.proofs.Layouts.{apart, sound, layout-same}
@@ -188,11 +189,11 @@ module _ (policy : Policy) (encrypt decrypt : List ℕ → List ℕ) (law : Ciph
     wire-size : length (b ++ tag b) ≡ length p + addedOf Sending policy t (layoutOf p)
     wire-size = omega (arith, wire-length, body-length, given .size)
 
-    wire-first : getD (b ++ tag b) 0 0 ≡ getD q 0 0
+    wire-fixed : (i : ℕ) → i < 12 → getD (b ++ tag b) i 0 ≡ getD q i 0
     unfolding b
-    wire-first =
+    wire-fixed i h =
         let o = sound r in
-        List·getD-append b (tag b) 0 0 (omega (arith, long)) ∙ law .stays r 0 (omega (arith, o .count, o .block)) (inl (omega arith)) ∙ form .first
+        List·getD-append b (tag b) 0 i (omega (arith, long)) ∙ law .stays r i (omega (arith, o .count, o .block)) (inl h) ∙ form .fixed i h
 
     wire-elements : elementsFit policy (layoutOf (b ++ tag b)) (b ++ tag b) ≡ true
     unfolding b r q
@@ -206,7 +207,7 @@ module _ (policy : Policy) (encrypt decrypt : List ℕ → List ℕ) (law : Ciph
     arrived =
         record {
           long = omega (arith, wire-length, long);
-          version = ap (λ (x : ℕ). x / 64) wire-first ∙ given .ready .version;
+          version = ap (λ (x : ℕ). x / 64) (wire-fixed 0 (omega arith)) ∙ given .ready .version;
           fits = omega (arith, ap (λ (h : Layout). h .payload) wire-layout, ap (λ (h : Layout). h .payload) body-layout, fits, wire-length);
           profile = got-tag policy (layoutOf (b ++ tag b)) (rw wire-layout (form .profile));
           elements = wire-elements;
@@ -217,12 +218,16 @@ module _ (policy : Policy) (encrypt decrypt : List ℕ → List ℕ) (law : Ciph
     unfolding wireBy bodyBy restoreBy b r q
     round-trip =
         let body : take (length (b ++ tag b) - t) (b ++ tag b) ≡ b = take-at b (tag b) (length (b ++ tag b) - t) (omega (arith, wire-length)) in
+        let back : untaggedOf policy (decrypt (take (length (b ++ tag b) - t) (b ++ tag b))) ≡ q
+        = ap (λ (l : List ℕ). untaggedOf policy (decrypt l)) body ∙ ap (untaggedOf policy) (law .undone r) ∙ form .undone in
         record {
           accepted = ap headerNumber (judged Receiving policy t (b ++ tag b) arrived);
-          restored = ap (λ (l : List ℕ). untaggedOf policy (decrypt l)) body ∙ ap (untaggedOf policy) (law .undone r) ∙ form .undone;
+          restored = back;
+          shorter = omega (arith, ap length back, wire-length, body-length);
           size = wire-size;
           long = arrived .long;
           small = omega (arith, wire-size, s .size);
+          header = λ i z h. wire-fixed i h ∙ given .fixed i z h;
         }
 
 pub any-cipher : AnyCipher
@@ -252,8 +257,21 @@ tag-length t keys index h m =
     let n : length (macOf (keys .auth) (m ++ toBytes 4 (index / 2 ^ 16))) ≡ 20 = mac-length keys (m ++ toBytes 4 (index / 2 ^ 16)) in
     length-take t (macOf (keys .auth) (m ++ toBytes 4 (index / 2 ^ 16))) ∙ omega arith
 
+same-twice : (l : List ℕ) → sameOf l l ≡ true
+unfolding sameOf
+same-twice [] = refl
+same-twice (x ∷ l) = rw (eq-eqb x x refl) (same-twice l)
+
+-- the tag behind a body, and the body before it
+tag-behind : (t : ℕ) (keys : Keys) (index : ℕ) (b : List ℕ) → t ≤ 20 → tagFits t keys index (b ++ tagOf t keys index b) ≡ true
+unfolding tagFits
+tag-behind t keys index b h =
+    let n : length (b ++ tagOf t keys index b) ≡ length b + t = length-append b (tagOf t keys index b) ∙ ap (λ (k : ℕ). length b + k) (tag-length t keys index h b) in
+    let m : length (b ++ tagOf t keys index b) - t ≡ length b = omega arith in
+    rw (m, take-at b (tagOf t keys index b) (length b) refl, drop-at b (tagOf t keys index b) (length b) refl) (same-twice (tagOf t keys index b))
+
 pub sent-is-given-back : SentIsGivenBack
-unfolding wireOf restoreOf
+unfolding wireOf restoreOf wireBy
 sent-is-given-back =
     record {
       lawful = lawful;
@@ -261,6 +279,7 @@ sent-is-given-back =
           λ keys policy listed ssrc index t p h bytes sent.
           round-trip policy (cipherOf keys policy listed ssrc index) (cipherOf keys policy listed ssrc index) (lawful keys policy listed ssrc index) t (tagOf t keys index) p
           (tag-length t keys index h) bytes (passed Sending policy t p sent);
+      fits = λ t h keys policy listed ssrc index p. tag-behind t keys index (bodyBy policy (cipherOf keys policy listed ssrc index) p) h;
     }
 
 -- ---- policies 1 and 2

@@ -22,7 +22,7 @@ portionOf false h = record { first = h .payload; stop = h .payload; rest = h .pa
 abbrev pub portionPadOf : Portion → (ℕ → ℕ) → ℕ → ℕ
 portionPadOf r stream = portionPad (r .first) (r .stop) (r .rest) stream
 
--- policy 3, on the block: its keystream where the mask is FF, byte k for block byte k
+-- policy 3, on the block: the header keystream where the mask is FF, byte k for block byte k
 abbrev pub blockPadOf : (ℕ → Bool) → (ℕ → ℕ) → List ℕ → ℕ → ℕ
 blockPadOf listed header-stream p i =
     pick (ltb i (layoutOf p .block)) 0 (maskedPad (maskOf listed (layoutOf p .tag) (blockOf (layoutOf p) p)) header-stream (i - layoutOf p .block))

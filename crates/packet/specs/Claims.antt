@@ -15,9 +15,9 @@ use Rattle.packet.specs.declared.policy.Way.the-variants.{Sending, Recei
 use Rattle.packet.specs.Cryptex.{givenBackOf}
 use Rattle.packet.specs.Judging.{addedOf, judgedOf}
 use Rattle.packet.specs.Policies.{usesCryptex, usesMask}
-use Rattle.packet.specs.Wire.{wireBy, restoreBy, cipherOf, wireOf, restoreOf}
+use Rattle.packet.specs.Wire.{wireBy, restoreBy, cipherOf, wireOf, restoreOf, tagFits}
 
--- What a cipher has to keep, on a packet in the form that it has on the wire: its length, the bytes outside the encrypted portion, that it is undone and,
+-- What a cipher has to keep, on a packet in the form that it has on the wire: its length, the fixed header and the extension header, that it is undone and,
 -- under the mask, the ELEMENT answer. Of the bytes that it changes nothing is said.
 pub record Cipher (policy : Policy) (encrypt decrypt : List ℕ → List ℕ) : Type 0 where
   pub same-length : (q : List ℕ) → length (encrypt q) ≡ length q
@@ -25,13 +25,16 @@ pub record Cipher (policy : Policy) (encrypt decrypt : List ℕ → List ℕ) : 
   pub undone : (q : List ℕ) → decrypt (encrypt q) ≡ q
   pub elements : usesMask policy ≡ true → (q : List ℕ) → wholeOf (layoutOf q .tag) (blockOf (layoutOf q) (encrypt q)) ≡ wholeOf (layoutOf q .tag) (blockOf (layoutOf q) q)
 
--- w is what is sent for p, r what is given back for w: no refusal from 2 to 7 keeps w away, and r is p, with the empty block where Cryptex adds one
+-- w is what is sent for p, r what is given back for w: w is refused with none of 2 to 7, and r is p, with the empty block where Cryptex adds one
 pub record RoundTrip (policy : Policy) (t : ℕ) (p w r : List ℕ) : Type 0 where
   pub accepted : headerNumber (judgedOf Receiving policy t w) ≡ 0
   pub restored : r ≡ givenBackOf policy p
+  pub shorter : length r + t ≡ length w
   pub size : length w ≡ length p + addedOf Sending policy t (layoutOf p)
   pub long : 12 + t ≤ length w
   pub small : length w ≤ 2048
+  -- the fixed header, with sequence number and SSRC, is sent as it is, but for the X bit in its first byte
+  pub header : (i : ℕ) → 0 < i → i < 12 → getD w i 0 ≡ getD p i 0
 
 -- for any cipher that keeps the laws, and any authenticator with tags of t bytes
 pub record AnyCipher : Type 0 where
@@ -50,6 +53,9 @@ pub record SentIsGivenBack : Type 0 where
       → ((i : ℕ) → getD p i 0 < 256)
       → headerNumber (judgedOf Sending policy t p) ≡ 0
       → RoundTrip policy t p (wireOf t keys policy listed ssrc index p) (restoreOf t keys policy listed ssrc index (wireOf t keys policy listed ssrc index p))
+  -- and its tag is the one that the receiver wants
+  pub fits : (t : ℕ) → t ≤ 20 → (keys : Keys) (policy : Policy) (listed : ℕ → Bool) (ssrc index : ℕ) (p : List ℕ)
+      → tagFits t keys index (wireOf t keys policy listed ssrc index p) ≡ true
 
 -- document 01: "Sending under 1 and 2 is the same."
 pub record SendingAlike : Type 0 where

@@ -20,13 +20,13 @@ addsBlock policy h = usesCryptex policy && (not (h .x) && ltb 0 (h .cc))
 abbrev pub withBlock : List ℕ → ℕ → List ℕ
 withBlock p at = take at (set p 0 (getD p 0 0 + 16)) ++ (0xBE ∷ 0xDE ∷ 0x00 ∷ 0x00 ∷ drop at p)
 
--- The packet as it is given back: with the empty block, where Cryptex adds one. "it can be left as is and will be processed normally"
+-- The packet as it is given back, from which sending starts too: with the empty block, where Cryptex adds one. "it can be left as is and will be processed normally"
 unfoldable pub givenBackOf : Policy → List ℕ → List ℕ
 givenBackOf policy p = pick (addsBlock policy (layoutOf p)) (withBlock p (layoutOf p .extension)) p
 
 -- ---- the tag
 
--- 0xC0DE instead of 0xBEDE, 0xC2DE instead of 0x1000, and back
+-- 0xC0DE instead of 0xBEDE, 0xC2DE instead of 0x1000, and back. Sending has no other tag (PROFILE).
 abbrev pub cryptexTag : ℕ → ℕ
 cryptexTag tag = pick (eqb tag 0xBEDE) 0xC0DE 0xC2DE
 
@@ -40,11 +40,11 @@ isCryptexTag tag = eqb tag 0xC0DE || eqb tag 0xC2DE
 unfoldable pub written16 : List ℕ → ℕ → ℕ → List ℕ
 written16 p i v = set (set p i (v / 256)) (i + 1) (v % 256)
 
--- on sending: every packet with an extension
+-- on sending under Cryptex: every packet with an extension
 unfoldable pub taggedOf : Policy → List ℕ → List ℕ
 taggedOf policy p = pick (usesCryptex policy && layoutOf p .x) (written16 p (layoutOf p .extension) (cryptexTag (layoutOf p .tag))) p
 
--- on receiving: a packet whose tag says so; any other is handled as policy 0 (document 01, "What is encrypted")
+-- in its wire form, both ways: a packet whose tag says so. On receiving, any other is handled as policy 0 (document 01, "What is encrypted").
 abbrev pub isCryptex : Policy → Layout → Bool
 isCryptex policy h = usesCryptex policy && (h .x && isCryptexTag (h .tag))
 

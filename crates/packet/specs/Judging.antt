@@ -18,7 +18,7 @@ use Rattle.packet.specs.declared.policy.Way.the-variants.{Sending, Recei
 use Rattle.packet.specs.Policies.{usesCryptex, usesMask}
 use Rattle.packet.specs.Cryptex.{addsBlock, isCryptexTag}
 
--- the tag that a packet has already
+-- the bytes of authentication tag that a packet has already
 abbrev pub tailOf : Way → ℕ → ℕ
 tailOf Sending t = 0
 tailOf Receiving t = t

@@ -1,4 +1,4 @@
--- Document 01, "The library's work": policies and ways. Both words are that paper's.
+-- Document 01, "The library's work": the policies (that paper's word), their numbers, and which of them use Cryptex or the mask.
 use mathlib.Core.Bool.{Bool, true, false}
 use Prim.Native.Nat.{ℕ}
 use Rattle.packet.specs.declared.policy.Policy.{Policy}

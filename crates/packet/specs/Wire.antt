@@ -37,9 +37,10 @@ headerStreamOf keys ssrc index = keystreamOf (keys .«header_cipher») (keys .«
 abbrev pub cipherOf : Keys → Policy → (ℕ → Bool) → ℕ → ℕ → List ℕ → List ℕ
 cipherOf keys policy listed ssrc index = cryptedOf policy listed (streamOf keys ssrc index) (headerStreamOf keys ssrc index)
 
--- 4.2: the first t bytes of the code over the authenticated portion M and then the rollover counter, i / 65,536, in 32 bits
+-- 4.2: the first t bytes of the MAC over M, which is the authenticated portion and then the rollover counter, i / 65,536, in 32 bits.
+-- `keys .auth` holds the key's states, from which `macOf` makes HMAC (`KeyStatesGiveTheMac`).
 unfoldable pub tagOf : ℕ → Keys → ℕ → List ℕ → List ℕ
-tagOf t keys index m = take t (macOf (keys .auth) (m ++ toBytes 4 (index / 2 ^ 16)))
+tagOf t keys index portion = take t (macOf (keys .auth) (portion ++ toBytes 4 (index / 2 ^ 16)))
 
 -- what is sent
 unfoldable pub wireOf : ℕ → Keys → Policy → (ℕ → Bool) → ℕ → ℕ → List ℕ → List ℕ

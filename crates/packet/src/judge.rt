@@ -13,7 +13,6 @@ use rtp::header::read_header;
 ghost use mathlib.Core.Path.{_≡_};
 ghost use Prim.Native.Nat.{_≤_, _<_};
 ghost use lib.ListN.{length};
-ghost use Rattle.rtp.specs.Header.{layoutOf};
 ghost use Rattle.packet.specs.Judging.{tailOf, profileFits, elementsFit, addedOf, judgedOf};
 
 fn tail(way: Way, t: usize) -> usize

@@ -34,7 +34,7 @@ pub fn is_cryptex_tag(tag: u16) -> bool
     tag == 0xC2DE
 }
 
-// A packet that arrives is under Cryptex.
+// A packet in its wire form is under Cryptex.
 pub fn is_cryptex(policy: Policy, h: Layout) -> bool
     ensures { λ r. ⌜ r ≡ isCryptex policy h ⌝ }
 {

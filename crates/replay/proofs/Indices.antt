@@ -70,7 +70,7 @@ receiving b W s rollover seq large small =
 -- ---- sending
 
 module _ (s : ReplayState) (rollover seq : ℕ) (P : ℕ → Type 0) where
-  next-gives : (s .started ≡ false → P (rollover * 65536 + seq))
+  pub next-gives : (s .started ≡ false → P (rollover * 65536 + seq))
       → (s .started ≡ true → 1 ≤ stepOf (s .highest) seq → s .highest + stepOf (s .highest) seq < 2 ^ 48 → P (s .highest + stepOf (s .highest) seq))
       → Gives P (nextOf s rollover seq)
   unfolding nextOf

@@ -22,7 +22,7 @@ pub record GuessIsRight : Type 0 where
   -- where the packet's index i is under 32,768 away, the guess is i
   pub near : (h i : ℕ) → i < h + 32768 → h < i + 32768 → guessOf h (lowOf i) ≡ pos i
 
--- an index, where the answer is one
+-- P holds of the index, where the answer is one; of a refusal nothing is said
 abbrev pub Gives : (ℕ → Type 0) → Judged → Type 0
 Gives P (Index i) = P i
 Gives P (Refused r) = Unit {0}

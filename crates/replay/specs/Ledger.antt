@@ -107,6 +107,6 @@ pub record FollowsTheLedger : Type 0 where
   pub near : (rollover : ℕ) (l : List ℕ) (i : ℕ) → Near rollover l i → guessBeside rollover l (lowOf i) ≡ pos i
   -- this library's ring is long enough for its width
   pub enough : width + 64 ≤ 64 * blocks
-  -- the example meets the premise
+  -- the example's guesses are right
   pub met : GuessedRight width 0 [] arrivals
   pub example : byLedger width [] arrivals ≡ answers

@@ -6,5 +6,4 @@ pub mod Receive
 pub mod Send
 pub mod Ledger
 pub mod Claims
-pub mod Sums
 pub mod Steps

@@ -19,8 +19,8 @@ indexFor s rollover seq = pick (s .started) (guessOf (s .highest) seq) (pos (rol
 abbrev pub distanceFor : ReplayState → ℕ → ℤ
 distanceFor s seq = pick (s .started) (distanceOf (s .highest) seq) (pos 0)
 
--- A highest index of 2^48 or more, which no step makes, is a number like any other: its guess is WORN, or judged where it falls below 2^48.
 -- WORN: past 2^48 - 1. OLD: below 0, or W or more behind the highest. REPEAT: accepted before, less than W behind.
+-- Any highest index has an answer, also one of 2^48 or more, which no step makes.
 abbrev pub judgeIndex : ℕ → ℕ → ReplayState → ℤ → Judged
 judgeIndex b W s (pos i) = pick (leb (2 ^ 48) i) (Refused refusal.Worn) (judgeOf b W s i)
 judgeIndex b W s (negsuc n) = Refused refusal.Old

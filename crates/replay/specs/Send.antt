@@ -21,7 +21,7 @@ steppedOf last step =
     (pick (leb (2 ^ 48) (last + step)) (Refused refusal.Worn)
     (Index (last + step)))
 
--- the first packet has index rollover * 65,536 + SEQ, which is neither
+-- the first packet has index rollover * 65,536 + SEQ, and gets neither refusal
 unfoldable pub nextOf : ReplayState → ℕ → ℕ → Judged
 nextOf s rollover seq =
     pick (s .started) (steppedOf (s .highest) (stepOf (s .highest) seq)) (Index (rollover * 65536 + seq))

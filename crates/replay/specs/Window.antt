@@ -22,7 +22,7 @@ bit x k = eqb (x / 2 ^ k % 2) 1
 abbrev pub blockOf : ℕ → Window → ℕ → ℕ
 blockOf b w n = pick (eqb (getD (w .stamps) (n % b) 0) n) (getD (w .bits) (n % b) 0) 0
 
--- index i was accepted
+-- index i is marked as accepted: no longer so once another block stands in its place
 unfoldable pub seenIn : ℕ → Window → ℕ → Bool
 seenIn b w i = bit (blockOf b w (i / 64)) (i % 64)
 

@@ -1,7 +1,6 @@
 // What is claimed of the definitions, each carried by a function with nothing to do.
 ghost use Rattle.replay.specs.Claims.{GuessIsRight, StepsAreSound};
 ghost use Rattle.replay.specs.Ledger.{FollowsTheLedger};
-ghost use Rattle.replay.specs.Sums.{Sums};
 
 // Highest and distance make the index; the distance's range; a packet under 32,768 away is guessed right.
 pub fn guess_is_right()
@@ -17,9 +16,4 @@ pub fn steps_are_sound()
 // guesses are right.
 pub fn follows_the_ledger()
     ensures { λ _. ⌜ FollowsTheLedger ⌝ }
-{}
-
-// G1 to G7, S1 and S2 of document 01.
-pub fn sums()
-    ensures { λ _. ⌜ Sums ⌝ }
 {}

@@ -19,7 +19,7 @@ pub(crate) fn difference(a: u32, b: u32) -> i32
     (a as i32) - (b as i32)
 }
 
-// From the low 16 bits of the highest accepted index to the sequence number, with a rollover on the side that the guess puts it.
+// SEQ up and s down; 65,536 more down where the guess is R - 1, more up where it is R + 1.
 pub(crate) fn guess(highest: u64, sequence: u16) -> Offset
     ensures { λ r. ⌜ r ≡ offsetOf highest sequence ⌝ }
 {

@@ -15,7 +15,7 @@ ghost use Rattle.replay.specs.State.{freshOf, acceptOf, judgeOf, afterOf
 // 2^48: an index has 48 bits, the rollover counter and the sequence number.
 pub const LIMIT: u64 = 281474976710656;
 
-// How far behind the highest accepted index an index is still judged by what was accepted.
+// An index this far or more behind the highest is old.
 pub const WIDTH: u64 = 64;
 
 // `highest` is the highest index accepted, or the last one sent, and counts only where a packet was (`started`).

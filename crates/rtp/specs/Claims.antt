@@ -11,7 +11,7 @@ use Rattle.rtp.specs.declared.element.Found.the-variants.{Absent}
 use Rattle.rtp.specs.Elements.{wholeOf, elementsOf}
 use Rattle.rtp.specs.Finding.{locatedOf}
 use Rattle.rtp.specs.Header.{versionOf, hasExtension, countOf, pastContributors, layoutOf, headerOf}
-use Rattle.rtp.specs.Mask.{maskOf, maskedOf}
+use Rattle.rtp.specs.Mask.{among, maskOf, maskedOf}
 
 -- ---- the header
 
@@ -54,3 +54,18 @@ pub record MaskedReadsAlike : Type 0 where
   pub mask : (listed other : ℕ → Bool) (tag : ℕ) (pad : ℕ → ℕ) (block : List ℕ) → maskOf other tag (maskedOf listed tag pad block) ≡ maskOf other tag block
   pub same-length : (listed : ℕ → Bool) (tag : ℕ) (pad : ℕ → ℕ) (block : List ℕ) → length (maskedOf listed tag pad block) ≡ length block
   pub undone : (listed : ℕ → Bool) (tag : ℕ) (pad : ℕ → ℕ) (block : List ℕ) → maskedOf listed tag pad (maskedOf listed tag pad block) ≡ block
+
+-- RFC 6904, A.2: its mask, for the ids 1, 3 and 4 that it says are encrypted (its later "1, 2, and 4" is a slip)
+abbrev pub publishedBlock : List ℕ
+publishedBlock =
+    0x17 ∷ 0x41 ∷ 0x42 ∷ 0x73 ∷ 0xa4 ∷ 0x75 ∷ 0x26 ∷ 0x27 ∷ 0x48 ∷ 0x22 ∷ 0x00 ∷ 0x00
+    ∷ 0xc8 ∷ 0x30 ∷ 0x8e ∷ 0x46 ∷ 0x55 ∷ 0x99 ∷ 0x63 ∷ 0x86 ∷ 0xb3 ∷ 0x95 ∷ 0xfb ∷ 0x00 ∷ []
+
+abbrev pub publishedMask : List ℕ
+publishedMask =
+    0x00 ∷ 0xff ∷ 0xff ∷ 0xff ∷ 0xff ∷ 0xff ∷ 0xff ∷ 0xff ∷ 0xff ∷ 0x00 ∷ 0x00 ∷ 0x00
+    ∷ 0x00 ∷ 0x00 ∷ 0xff ∷ 0x00 ∷ 0xff ∷ 0xff ∷ 0xff ∷ 0xff ∷ 0xff ∷ 0xff ∷ 0xff ∷ 0x00 ∷ []
+
+pub record MaskIsPublished : Type 0 where
+  pub whole : wholeOf 0xBEDE publishedBlock ≡ true
+  pub mask : maskOf (among (1 ∷ 3 ∷ 4 ∷ [])) 0xBEDE publishedBlock ≡ publishedMask

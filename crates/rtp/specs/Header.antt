@@ -26,6 +26,13 @@ countOf p = getD p 0 0 % 16
 abbrev pub field16 : List ℕ → ℕ → ℕ
 field16 p i = fromBytes (getD p i 0 ∷ getD p (i + 1) 0 ∷ [])
 
+-- 5.1: the sequence number and the SSRC
+unfoldable pub seqOf : List ℕ → ℕ
+seqOf p = field16 p 2
+
+unfoldable pub ssrcOf : List ℕ → ℕ
+ssrcOf p = fromBytes (getD p 8 0 ∷ getD p 9 0 ∷ getD p 10 0 ∷ getD p 11 0 ∷ [])
+
 -- The fixed header has 12 bytes, each contributing source 4.
 abbrev pub pastContributors : List ℕ → ℕ
 pastContributors p = 12 + 4 * countOf p

@@ -3,5 +3,4 @@ pub mod Elements
 pub mod Finding
 pub mod Mask
 pub mod Claims
-pub mod Sums
 pub mod Steps

@@ -1,5 +1,5 @@
 -- RFC 6904, section 3: the encryption mask of a header extension's block, and the block encrypted under it.
-use mathlib.Core.Bool.{Bool}
+use mathlib.Core.Bool.{Bool, false, _||_}
 use mathlib.Core.List.{List, [], _∷_}
 use Prim.Native.Nat.{ℕ}
 use lib.Dec.{eqb}
@@ -7,6 +7,11 @@ use lib.ListN.{getD}
 use Rattle.bits.specs.Pick.{pick}
 use Rattle.bits.specs.Xor.{xorPad}
 use Rattle.rtp.specs.Elements.{NextByte, Between, Length, Data, Ended, twoByte, startOf, stepOf}
+
+-- a set of ids by its members
+abbrev pub among : List ℕ → ℕ → Bool
+among [] id = false
+among (x ∷ l) id = eqb id x || among l id
 
 -- all ones on data of an element whose id is listed; zero on element headers, padding, data of other elements and bytes that are not read
 abbrev pub maskByte : (ℕ → Bool) → NextByte → ℕ

@@ -1,0 +1,22 @@
+-- Document 01, "Numbers given back", 15, 17 and 18: a stream added to a session.
+use mathlib.Core.Bool.{not}
+use Prim.Native.Nat.{ℕ}
+use Rattle.bits.specs.Pick.{pick}
+use Rattle.bits.specs.Refusals.{numberOf}
+use Rattle.bits.specs.declared.refusal.Refusal.{Refusal}
+use Rattle.bits.specs.declared.refusal.Refusal.the-variants as refusal
+use Rattle.packet.specs.declared.policy.Way.{Way}
+use Rattle.srtp.specs.declared.session.Session.{Session}
+use Rattle.srtp.specs.Records.{hasSsrc, isFull, placed, freshRecord}
+use Rattle.srtp.specs.Making.{Made}
+
+abbrev pub notAdded : Session → Refusal → Made
+notAdded s r = record { number = numberOf r; session = s }
+
+-- KEYS: session unmade. TWICE: SSRC already in the session, either way. FULL: 32 records already.
+unfoldable pub addOf : Session → ℕ → Way → ℕ → Made
+addOf s ssrc way rollover =
+    pick (not (s .setup .made)) (notAdded s refusal.Keys)
+    (pick (hasSsrc (s .records) ssrc) (notAdded s refusal.Twice)
+    (pick (isFull (s .records)) (notAdded s refusal.Full)
+    (record { number = 0; session = record { setup = s .setup; records = placed (s .records) (freshRecord ssrc way rollover) } })))

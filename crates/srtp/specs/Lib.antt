@@ -1,0 +1,4 @@
+pub mod Records
+pub mod Making
+pub mod Adding
+pub mod Packets

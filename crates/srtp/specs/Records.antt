@@ -1,0 +1,77 @@
+-- Document 01, "The library's work": the stream records of a session, each for one SSRC and one way.
+use mathlib.Core.Bool.{Bool, true, false, not, _&&_, _||_}
+use mathlib.Core.List.{List, [], _∷_}
+use Prim.Native.Nat.{ℕ}
+use lib.Dec.{eqb}
+use Rattle.bits.specs.Pick.{pick}
+use Rattle.packet.specs.declared.policy.Way.{Way}
+use Rattle.packet.specs.declared.policy.Way.the-variants.{Sending, Receiving}
+use Rattle.replay.specs.declared.state.ReplayState.{ReplayState}
+use Rattle.replay.specs.State.{freshOf}
+use Rattle.replay.specs.Window.{blocks}
+use Rattle.srtp.specs.declared.session.Kind.{Kind}
+use Rattle.srtp.specs.declared.session.Kind.the-variants.{Free, Sender, Receiver}
+use Rattle.srtp.specs.declared.session.Record.{Record}
+
+-- ---- a place
+
+abbrev pub kindOf : Way → Kind
+kindOf Sending = Sender
+kindOf Receiving = Receiver
+
+abbrev pub serves : Kind → Way → Bool
+serves Free way = false
+serves Sender Sending = true
+serves Sender Receiving = false
+serves Receiver Sending = false
+serves Receiver Receiving = true
+
+abbrev pub isFree : Kind → Bool
+isFree Free = true
+isFree Sender = false
+isFree Receiver = false
+
+-- the record is for this SSRC and this way
+abbrev pub isFor : Record → ℕ → Way → Bool
+isFor r ssrc way = eqb (r .ssrc) ssrc && serves (r .kind) way
+
+-- a stream that has had no packet
+abbrev pub freshRecord : ℕ → Way → ℕ → Record
+freshRecord ssrc way rollover = record { ssrc = ssrc; kind = kindOf way; rollover = rollover; replay = freshOf blocks }
+
+abbrev pub freePlace : Record
+freePlace = record { ssrc = 0; kind = Free; rollover = 0; replay = freshOf blocks }
+
+-- ---- all places
+
+pub data Found : Type 0 where
+  none : Found
+  some : Record → Found
+
+-- the record for this SSRC and this way
+abbrev pub recordFor : List Record → ℕ → Way → Found
+recordFor [] ssrc way = none
+recordFor (r ∷ l) ssrc way = pick (isFor r ssrc way) (some r) (recordFor l ssrc way)
+
+-- and the records with another replay state in it
+abbrev pub withReplay : Record → ReplayState → Record
+withReplay r state = record { ssrc = r .ssrc; kind = r .kind; rollover = r .rollover; replay = state }
+
+abbrev pub storeFor : List Record → ℕ → Way → ReplayState → List Record
+storeFor [] ssrc way state = []
+storeFor (r ∷ l) ssrc way state = pick (isFor r ssrc way) (withReplay r state ∷ l) (r ∷ storeFor l ssrc way state)
+
+-- this SSRC has a record, either way
+abbrev pub hasSsrc : List Record → ℕ → Bool
+hasSsrc [] ssrc = false
+hasSsrc (r ∷ l) ssrc = (not (isFree (r .kind)) && eqb (r .ssrc) ssrc) || hasSsrc l ssrc
+
+-- no place is free
+abbrev pub isFull : List Record → Bool
+isFull [] = true
+isFull (r ∷ l) = not (isFree (r .kind)) && isFull l
+
+-- The records with one more. Its place is left free by the papers: it is the first that is free.
+abbrev pub placed : List Record → Record → List Record
+placed [] new = []
+placed (r ∷ l) new = pick (isFree (r .kind)) (new ∷ l) (r ∷ placed l new)

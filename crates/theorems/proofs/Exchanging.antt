@@ -1,0 +1,187 @@
+-- Two neighbouring packet calls for different streams change places.
+use mathlib.Core.Path.{_≡_, refl, ap, _∙_, sym}
+use mathlib.Core.List.{List, [], _∷_, _++_}
+use mathlib.Core.Logic.{_⊎_, inl, inr, ⊎-elim}
+use Prim.Native.Nat.{ℕ, _≤_}
+use native.Mathlib.Omega.{arith}
+use lib.ListN.{length}
+use Rattle.bits.specs.Refusals.{numberOf}
+use Rattle.bits.specs.declared.refusal.Refusal.{Refusal}
+use Rattle.bits.specs.declared.refusal.Refusal.the-variants as refusal
+use Rattle.packet.specs.declared.policy.Way.{Way}
+use Rattle.srtp.specs.declared.session.Setup.{Setup}
+use Rattle.srtp.specs.declared.session.Session.{Session}
+use Rattle.srtp.specs.Records.{Found, recordFor}
+use Rattle.srtp.specs.Packets.{Effect, refuse, give, protectEffect, unprotectEffect, Answer, Outcome, settled, protectOf, unprotectOf}
+use Rattle.theorems.specs.Answers.{bufferOf}
+use Rattle.theorems.specs.Lists.{End, sender, receiver, Call, add, protect, unprotect, endOf, Sessions, sessionAt, withSession, outcomeOf, answerOf, next, Event, event, after, eventsOf}
+use Rattle.theorems.specs.Places.{IsPacketCall, ssrcIn, wayIn, Unread, Apart, exchanged, NeighboursChangePlaces}
+use Rattle.theorems.proofs.Refusing.{Refuses, Early, Timing, early, later, LateToProtect, LateToUnprotect, protect-timing, unprotect-timing}
+use Rattle.theorems.proofs.Settling.{setup-settled, answer-settled, found-settled, settled-commute}
+use Rattle.theorems.proofs.Holding.{setup-next}
+
+-- ---- a packet call as its buffer and its effect
+
+abbrev pub effectIn : Setup → Call → Found → Effect
+effectIn h (add e x w r) found = refuse refusal.Keys
+effectIn h (protect e buf n) found = protectEffect h buf n found
+effectIn h (unprotect e buf n) found = unprotectEffect h buf n found
+
+abbrev pub effectOf : Session → Call → Effect
+effectOf s c = effectIn (s .setup) c (recordFor (s .records) (ssrcIn c) (wayIn c))
+
+pub packet-call : (s : Session) (c : Call) → IsPacketCall c → outcomeOf s c ≡ settled s (bufferOf c) (ssrcIn c) (wayIn c) (effectOf s c)
+unfolding protectOf unprotectOf
+packet-call s (add e x w r) k = absurd k
+packet-call s (protect e buf n) k = refl
+packet-call s (unprotect e buf n) k = refl
+
+-- ---- in one session
+
+module _ (s : Session) (c d : Call) (kc : IsPacketCall c) (kd : IsPacketCall d) (differ : wayIn c ≡ wayIn d → ssrcIn c ≡ ssrcIn d → ⊥) where
+  abbrev first : Outcome
+  first = settled s (bufferOf c) (ssrcIn c) (wayIn c) (effectOf s c)
+
+  effect-kept : effectOf (first .session) d ≡ effectOf s d
+  effect-kept =
+      rw (setup-settled s (bufferOf c) (ssrcIn c) (wayIn c) (effectOf s c), found-settled (ssrcIn c) (ssrcIn d) (wayIn c) (wayIn d) differ s (bufferOf c) (effectOf s c))
+
+  answer-kept : outcomeOf (outcomeOf s c .session) d .answer ≡ outcomeOf s d .answer
+  answer-kept =
+      rw (packet-call s c kc, packet-call (first .session) d kd, packet-call s d kd, effect-kept)
+      (answer-settled (first .session) s (bufferOf d) (ssrcIn d) (wayIn d) (effectOf s d))
+
+  second-is : outcomeOf (outcomeOf s c .session) d .session ≡ settled (first .session) (bufferOf d) (ssrcIn d) (wayIn d) (effectOf s d) .session
+  second-is = rw (packet-call s c kc, packet-call (first .session) d kd, effect-kept)
+
+sessions-commute : (s : Session) (c d : Call) → IsPacketCall c → IsPacketCall d → (wayIn c ≡ wayIn d → ssrcIn c ≡ ssrcIn d → ⊥)
+    → outcomeOf (outcomeOf s c .session) d .session ≡ outcomeOf (outcomeOf s d .session) c .session
+sessions-commute s c d kc kd differ =
+    second-is s c d kc kd differ
+    ∙ settled-commute (ssrcIn c) (ssrcIn d) (wayIn c) (wayIn d) differ s (bufferOf c) (bufferOf d) (effectOf s c) (effectOf s d)
+    ∙ sym (second-is s d c kd kc (λ w y. differ (sym w) (sym y)))
+
+-- ---- in two sessions
+
+with-commute : (e f : End) (s : Sessions) (F G : Session → Session) → (e ≡ f → (t : Session) → G (F t) ≡ F (G t))
+    → withSession f (withSession e s (F (sessionAt e s))) (G (sessionAt f (withSession e s (F (sessionAt e s)))))
+    ≡ withSession e (withSession f s (G (sessionAt f s))) (F (sessionAt e (withSession f s (G (sessionAt f s)))))
+with-commute sender sender s F G h = ap (λ (t : Session). record { sending = t; receiving = s .receiving }) (h refl (s .sending))
+with-commute sender receiver s F G h = refl
+with-commute receiver sender s F G h = refl
+with-commute receiver receiver s F G h = ap (λ (t : Session). record { sending = s .sending; receiving = t }) (h refl (s .receiving))
+
+with-answer : (e f : End) (s : Sessions) (F : Session → Session) (H : Session → Answer) → (e ≡ f → (t : Session) → H (F t) ≡ H t)
+    → H (sessionAt f (withSession e s (F (sessionAt e s)))) ≡ H (sessionAt f s)
+with-answer sender sender s F H h = h refl (s .sending)
+with-answer sender receiver s F H h = refl
+with-answer receiver sender s F H h = refl
+with-answer receiver receiver s F H h = h refl (s .receiving)
+
+with-own : (e : End) (s : Sessions) → withSession e s (sessionAt e s) ≡ s
+with-own sender s = refl
+with-own receiver s = refl
+
+record Commute (s : Sessions) (c d : Call) : Type 0 where
+  sessions : next (next s c) d ≡ next (next s d) c
+  left : answerOf (next s d) c ≡ answerOf s c
+  right : answerOf (next s c) d ≡ answerOf s d
+
+apart-commute : (s : Sessions) (c d : Call) → IsPacketCall c → IsPacketCall d → (endOf c ≡ endOf d → wayIn c ≡ wayIn d → ssrcIn c ≡ ssrcIn d → ⊥) → Commute s c d
+apart-commute s c d kc kd differ =
+    record {
+      sessions = with-commute (endOf c) (endOf d) s (λ t. outcomeOf t c .session) (λ t. outcomeOf t d .session) (λ e t. sessions-commute t c d kc kd (differ e));
+      left = with-answer (endOf d) (endOf c) s (λ t. outcomeOf t d .session) (λ t. outcomeOf t c .answer) (λ e t. answer-kept t d c kd kc (λ w y. differ (sym e) (sym w) (sym y)));
+      right = with-answer (endOf c) (endOf d) s (λ t. outcomeOf t c .session) (λ t. outcomeOf t d .answer) (λ e t. answer-kept t c d kc kd (differ e));
+    }
+
+-- ---- refused with LENGTH or SHORT
+
+-- a refusal that looks at the record, or a result, has another number
+late-read : (s : Session) (buf : List ℕ) (x : ℕ) (w : Way) (d : Effect) → Refuses (λ r. 8 ≤ numberOf r) d → Unread (settled s buf x w d .answer) → ⊥
+late-read s buf x w (refuse r) l a = ⊎-elim (λ z. omega arith) (λ z. omega arith) a
+late-read s buf x w (give m b t) l a = ⊎-elim (λ z. omega arith) (λ z. omega arith) a
+
+weaker : (P Q : Refusal → Type 0) → ((r : Refusal) → P r → Q r) → (d : Effect) → Refuses P d → Refuses Q d
+weaker P Q f (refuse r) p = f r p
+weaker P Q f (give m b t) p = tt
+
+early-or-late : (h : Setup) (c : Call) → IsPacketCall c → Early (effectIn h c) ⊎ ((found : Found) → Refuses (λ r. 8 ≤ numberOf r) (effectIn h c found))
+early-or-late h (add e x w r) k = absurd k
+early-or-late h (protect e buf n) k = go (protect-timing h buf n)
+  where
+    go : Timing LateToProtect (protectEffect h buf n) → Early (protectEffect h buf n) ⊎ ((found : Found) → Refuses (λ r. 8 ≤ numberOf r) (protectEffect h buf n found))
+    go (early e l) = inl e
+    go (later l) = inr (λ found. weaker LateToProtect (λ r. 8 ≤ numberOf r) (λ r p. p .0) (protectEffect h buf n found) (l found))
+early-or-late h (unprotect e buf n) k = go (unprotect-timing h buf n)
+  where
+    go : Timing LateToUnprotect (unprotectEffect h buf n) → Early (unprotectEffect h buf n) ⊎ ((found : Found) → Refuses (λ r. 8 ≤ numberOf r) (unprotectEffect h buf n found))
+    go (early e l) = inl e
+    go (later l) = inr (λ found. weaker LateToUnprotect (λ r. 8 ≤ numberOf r) (λ r p. omega (arith, p .low)) (unprotectEffect h buf n found) (l found))
+
+unread-early : (s : Session) (c : Call) → IsPacketCall c → Unread (outcomeOf s c .answer) → Early (effectIn (s .setup) c)
+unread-early s c k a =
+    ⊎-elim (λ e. e)
+    (λ l. absurd (late-read s (bufferOf c) (ssrcIn c) (wayIn c) (effectOf s c) (l _) (rw (packet-call s c k) at a)))
+    (early-or-late (s .setup) c k)
+
+module _ (c : Call) (k : IsPacketCall c) (h : Setup) (e : Early (effectIn h c)) where
+  abbrev refusedAs : Answer
+  refusedAs = record { number = numberOf (e .reason); length = 0; buffer = bufferOf c }
+
+  early-outcome : (s : Session) → s .setup ≡ h → outcomeOf s c ≡ record { answer = refusedAs; session = s }
+  early-outcome s q =
+      let f : effectOf s c ≡ refuse (e .reason) = rw q (e .refuses (recordFor (s .records) (ssrcIn c) (wayIn c))) in
+      packet-call s c k ∙ ap (λ (d : Effect). settled s (bufferOf c) (ssrcIn c) (wayIn c) d) f
+
+  early-next : (s : Sessions) → sessionAt (endOf c) s .setup ≡ h → next s c ≡ s
+  early-next s q = ap (λ (o : Outcome). withSession (endOf c) s (o .session)) (early-outcome (sessionAt (endOf c) s) q) ∙ with-own (endOf c) s
+
+  early-answer : (s : Sessions) → sessionAt (endOf c) s .setup ≡ h → answerOf s c ≡ refusedAs
+  early-answer s q = ap (λ (o : Outcome). o .answer) (early-outcome (sessionAt (endOf c) s) q)
+
+early-commute : (s : Sessions) (c d : Call) → IsPacketCall c → Early (effectIn (sessionAt (endOf c) s .setup) c) → Commute s c d
+early-commute s c d k e =
+    let h : Setup = sessionAt (endOf c) s .setup in
+    let a : next s c ≡ s = early-next c k h e s refl in
+    let b : next (next s d) c ≡ next s d = early-next c k h e (next s d) (setup-next (endOf c) s d) in
+    record {
+      sessions = ap (λ (t : Sessions). next t d) a ∙ sym b;
+      left = early-answer c k h e (next s d) (setup-next (endOf c) s d) ∙ sym (early-answer c k h e s refl);
+      right = ap (λ (t : Sessions). answerOf t d) a;
+    }
+
+flipped : (s : Sessions) (c d : Call) → Commute s d c → Commute s c d
+flipped s c d o = record { sessions = sym (o .sessions); left = o .right; right = o .left }
+
+-- d is refused after c, so it is refused before
+second-early : (s : Sessions) (c d : Call) → IsPacketCall d → Unread (answerOf (next s c) d) → Early (effectIn (sessionAt (endOf d) s .setup) d)
+second-early s c d k a = rw (setup-next (endOf d) s c) at (unread-early (sessionAt (endOf d) (next s c)) d k a)
+
+commute : (s : Sessions) (c d : Call) → IsPacketCall c → IsPacketCall d → Apart s c d → Commute s c d
+commute s c d kc kd a =
+    ⊎-elim (λ f. apart-commute s c d kc kd f)
+    (λ b. ⊎-elim
+    (λ f. early-commute s c d kc (unread-early (sessionAt (endOf c) s) c kc f))
+    (λ f. flipped s c d (early-commute s d c kd (second-early s c d kd f)))
+    b)
+    a
+
+-- ---- along the list
+
+module _ (c d : Call) (later-calls : List Call) where
+  sessions-exchanged : (before : List Call) (s : Sessions) → Commute (after s before) c d
+      → after s (before ++ d ∷ c ∷ later-calls) ≡ after s (before ++ c ∷ d ∷ later-calls)
+  sessions-exchanged [] s o = ap (λ (t : Sessions). after t later-calls) (sym (o .sessions))
+  sessions-exchanged (b ∷ bs) s o = sessions-exchanged bs (next s b) o
+
+  events-exchanged : (before : List Call) (s : Sessions) → Commute (after s before) c d
+      → eventsOf s (before ++ d ∷ c ∷ later-calls) ≡ exchanged (length before) (eventsOf s (before ++ c ∷ d ∷ later-calls))
+  events-exchanged [] s o = rw (o .left, o .right, o .sessions)
+  events-exchanged (b ∷ bs) s o = ap (λ (l : List Event). event b (answerOf s b) ∷ l) (events-exchanged bs (next s b) o)
+
+pub exchange : NeighboursChangePlaces
+unfolding NeighboursChangePlaces
+exchange s before later-calls c d kc kd a =
+    let o = commute (after s before) c d kc kd a in
+    (events-exchanged c d later-calls before s o, sessions-exchanged c d later-calls before s o)

@@ -1,0 +1,233 @@
+-- What holds of every session: its keys, its 32 places, and no SSRC twice. And equal sets of ids give equal sessions.
+use mathlib.Core.Path.{_≡_, refl, sym, ap, _∙_}
+use mathlib.Core.Bool.{Bool, true, false, not, _&&_, _||_}
+use mathlib.Core.List.{List, [], _∷_}
+use Prim.Native.Nat.{ℕ, zero, suc, _<_}
+use native.Mathlib.Omega.{arith}
+use borrow.Author.Tests.{ne-eqb, eqb-false}
+use lib.Dec.{eqb, ltb}
+use lib.ListN.{length, take, replicate}
+use Rattle.bits.proofs.Lists.{tabulate-ext}
+use Rattle.bits.specs.Pick.{pick}
+use Rattle.bits.specs.declared.refusal.Refusal.the-variants as refusal
+use Rattle.rtp.specs.Mask.{among}
+use Rattle.rtp.specs.declared.header.Header.{Header}
+use Rattle.rtp.specs.declared.header.Header.the-variants.{Read, Refused}
+use Rattle.rtp.specs.Header.{ssrcOf}
+use Rattle.replay.specs.declared.state.ReplayState.{ReplayState}
+use Rattle.packet.specs.declared.policy.Way.{Way}
+use Rattle.packet.specs.declared.policy.Way.the-variants.{Sending, Receiving}
+use Rattle.packet.specs.Judging.{judgedOf}
+use Rattle.packet.proofs.Layouts.{apart}
+use Rattle.srtp.specs.declared.session.Record.{Record}
+use Rattle.srtp.specs.declared.session.Setup.{Setup}
+use Rattle.srtp.specs.declared.session.Session.{Session}
+use Rattle.srtp.specs.Records.{isFree, isFor, freePlace, freshRecord, none, recordFor, withReplay, storeFor, hasSsrc, isFull, placed}
+use Rattle.srtp.specs.Making.{idsOf, unmade, sessionOf, makeOf}
+use Rattle.srtp.specs.Adding.{addOf}
+use Rattle.srtp.specs.Packets.{tagLength, Effect, refuse, give, unprotectRead, unprotectEffect, settled, protectOf, unprotectOf}
+use Rattle.theorems.specs.Lists.{End, sender, receiver, Call, add, protect, unprotect, Sessions, sessionAt, outcomeOf, next, after, justMade}
+use Rattle.theorems.specs.Sessions.{Once, Sound, SessionsAreSound, EqualSetsEqualSessions}
+use Rattle.theorems.proofs.Records.{clash, or-false, free-for, stored-ssrc, addBy}
+use Rattle.theorems.proofs.Settling.{none-given}
+use Rattle.theorems.proofs.Holding.{protectDone, unprotectDone}
+use Rattle.theorems.proofs.Sending.{madeBy}
+
+-- ---- no SSRC twice
+
+once-free : (k : ℕ) → Once (replicate k freePlace)
+once-free zero = tt
+once-free (suc k) = (λ e. clash true refl e, once-free k)
+
+once-stored : (x : ℕ) (w : Way) (t : ReplayState) (l : List Record) → Once l → Once (storeFor l x w t)
+once-stored x w t [] o = tt
+once-stored x w t (q ∷ l) o = go (isFor q x w) (once-stored x w t l (o .1))
+  where
+    go : (b : Bool) → Once (storeFor l x w t) → Once (pick b (withReplay q t ∷ l) (q ∷ storeFor l x w t))
+    go true rec = o
+    go false rec = (λ e. stored-ssrc (q .ssrc) x w t l ∙ o .0 e, rec)
+
+-- an SSRC that is neither there nor the new record's is not there afterwards
+not-placed : (y : ℕ) (n : Record) (l : List Record) → hasSsrc l y ≡ false → eqb (n .ssrc) y ≡ false → hasSsrc (placed l n) y ≡ false
+not-placed y n [] h e = refl
+not-placed y n (q ∷ l) h e = go (isFree (q .kind)) refl (not-placed y n l)
+  where
+    rest : hasSsrc l y ≡ false
+    rest = or-false (not (isFree (q .kind)) && eqb (q .ssrc) y) (hasSsrc l y) h
+
+    and-no : (a : Bool) → (a && false) ≡ false
+    and-no true = refl
+    and-no false = refl
+
+    first-no : (a b : Bool) → (a || b) ≡ false → a ≡ false
+    first-no true b z = clash true refl z
+    first-no false b z = refl
+
+    go : (b : Bool) → isFree (q .kind) ≡ b → (hasSsrc l y ≡ false → eqb (n .ssrc) y ≡ false → hasSsrc (placed l n) y ≡ false)
+        → hasSsrc (pick b (n ∷ l) (q ∷ placed l n)) y ≡ false
+    go true f rec = rw (e, and-no (not (isFree (n .kind)))) rest
+    go false f rec = rw (first-no (not (isFree (q .kind)) && eqb (q .ssrc) y) (hasSsrc l y) h) (rec rest e)
+
+once-placed : (n : Record) (l : List Record) → hasSsrc l (n .ssrc) ≡ false → Once l → Once (placed l n)
+once-placed n [] h o = tt
+once-placed n (q ∷ l) h o = go (isFree (q .kind)) refl (once-placed n l)
+  where
+    rest : hasSsrc l (n .ssrc) ≡ false
+    rest = or-false (not (isFree (q .kind)) && eqb (q .ssrc) (n .ssrc)) (hasSsrc l (n .ssrc)) h
+
+    differs : (k : Bool) (b : Bool) → k ≡ false → ((not k && b) || hasSsrc l (n .ssrc)) ≡ false → b ≡ false
+    differs true b f z = clash true refl f
+    differs false true f z = clash true refl z
+    differs false false f z = refl
+
+    turned : eqb (q .ssrc) (n .ssrc) ≡ false → eqb (n .ssrc) (q .ssrc) ≡ false
+    turned e = ne-eqb (n .ssrc) (q .ssrc) (λ z. eqb-false (q .ssrc) (n .ssrc) e (sym z))
+
+    go : (b : Bool) → isFree (q .kind) ≡ b → (hasSsrc l (n .ssrc) ≡ false → Once l → Once (placed l n)) → Once (pick b (n ∷ l) (q ∷ placed l n))
+    go true f rec = (λ e. rest, o .1)
+    go false f rec = (λ e. not-placed (q .ssrc) n l (o .0 e) (turned (differs (isFree (q .kind)) (eqb (q .ssrc) (n .ssrc)) e h)), rec rest (o .1))
+
+-- ---- 32 places
+
+length-stored : (x : ℕ) (w : Way) (t : ReplayState) (l : List Record) → length (storeFor l x w t) ≡ length l
+length-stored x w t [] = refl
+length-stored x w t (q ∷ l) = go (isFor q x w) (length-stored x w t l)
+  where
+    go : (b : Bool) → length (storeFor l x w t) ≡ length l → length (pick b (withReplay q t ∷ l) (q ∷ storeFor l x w t)) ≡ length (q ∷ l)
+    go true rec = refl
+    go false rec = ap suc rec
+
+length-placed : (n : Record) (l : List Record) → length (placed l n) ≡ length l
+length-placed n [] = refl
+length-placed n (q ∷ l) = go (isFree (q .kind)) (length-placed n l)
+  where
+    go : (b : Bool) → length (placed l n) ≡ length l → length (pick b (n ∷ l) (q ∷ placed l n)) ≡ length (q ∷ l)
+    go true rec = refl
+    go false rec = ap suc rec
+
+-- ---- the unmade session stays
+
+none-free : (k x : ℕ) (w : Way) → recordFor (replicate k freePlace) x w ≡ none
+none-free zero x w = refl
+none-free (suc k) x w = rw (free-for freePlace x w refl) (none-free k x w)
+
+module _ (h : Setup) (buf : List ℕ) (n : ℕ) where
+  none-read : (l : Header) (m : ℕ) (b : List ℕ) (t : ReplayState) → unprotectRead h buf n l none ≡ give m b t → ⊥
+  none-read (Refused r) m b t g = apart cc
+  none-read (Read l) m b t g = apart cc
+
+  none-first : (c : Bool) (m : ℕ) (b : List ℕ) (t : ReplayState)
+      → pick c (refuse refusal.Length) (unprotectRead h buf n (judgedOf Receiving (h .policy) tagLength (take n buf)) none) ≡ give m b t → ⊥
+  none-first true m b t g = apart cc
+  none-first false m b t g = none-read (judgedOf Receiving (h .policy) tagLength (take n buf)) m b t g
+
+  none-unprotected : (m : ℕ) (b : List ℕ) (t : ReplayState) → unprotectEffect h buf n none ≡ give m b t → ⊥
+  unfolding unprotectEffect
+  none-unprotected m b t g = none-first (ltb (length buf) n) m b t g
+
+left : (s : Session) (buf : List ℕ) (x : ℕ) (w : Way) (d : Effect) → ((m : ℕ) (b : List ℕ) (t : ReplayState) → d ≡ give m b t → ⊥) → settled s buf x w d .session ≡ s
+left s buf x w (refuse r) never = refl
+left s buf x w (give m b t) never = absurd (never m b t refl)
+
+protect-left : (s : Session) (buf : List ℕ) (n : ℕ) → s ≡ sessionOf unmade → protectOf s buf n .session ≡ s
+unfolding protectOf
+protect-left s buf n e =
+    left s buf (ssrcOf (take n buf)) Sending (protectDone s buf n)
+    (λ m b t g.
+    let free : recordFor (s .records) (ssrcOf (take n buf)) Sending ≡ none = rw e (none-free 32 (ssrcOf (take n buf)) Sending) in
+    none-given (s .setup) buf n m b t (rw free at g))
+
+unprotect-left : (s : Session) (buf : List ℕ) (n : ℕ) → s ≡ sessionOf unmade → unprotectOf s buf n .session ≡ s
+unfolding unprotectOf
+unprotect-left s buf n e =
+    left s buf (ssrcOf (take n buf)) Receiving (unprotectDone s buf n)
+    (λ m b t g.
+    let free : recordFor (s .records) (ssrcOf (take n buf)) Receiving ≡ none = rw e (none-free 32 (ssrcOf (take n buf)) Receiving) in
+    none-unprotected (s .setup) buf n m b t (rw free at g))
+
+-- ---- each call
+
+sound-by : (key salt : List ℕ) (policy : ℕ) (ids : List ℕ) (a b : Bool) → Sound (madeBy key salt policy ids a b .session)
+sound-by key salt policy ids true b = record { keys = λ e. clash false e refl; not-made = λ e. refl; places = refl; once = once-free 32 }
+sound-by key salt policy ids false true = record { keys = λ e. clash false e refl; not-made = λ e. refl; places = refl; once = once-free 32 }
+sound-by key salt policy ids false false = record { keys = λ e. refl; not-made = λ e. clash true refl e; places = refl; once = once-free 32 }
+
+made : (key salt : List ℕ) (policy : ℕ) (ids : List ℕ) → Sound (makeOf key salt policy ids .session)
+unfolding makeOf
+made key salt policy ids = sound-by key salt policy ids (not (eqb (length key) 16 && eqb (length salt) 14)) (ltb 3 policy)
+
+add-sound : (s : Session) (x : ℕ) (w : Way) (rollover : ℕ) (a b c : Bool) → s .setup .made ≡ a → hasSsrc (s .records) x ≡ b → Sound s → Sound (addBy s x w rollover a b c .session)
+add-sound s x w rollover false b c e f o = o
+add-sound s x w rollover true true c e f o = o
+add-sound s x w rollover true false true e f o = o
+add-sound s x w rollover true false false e f o =
+    record {
+      keys = o .keys;
+      not-made = λ z. clash _ e z;
+      places = length-placed (freshRecord x w rollover) (s .records) ∙ o .places;
+      once = once-placed (freshRecord x w rollover) (s .records) f (o .once);
+    }
+
+settled-sound : (s : Session) (buf : List ℕ) (x : ℕ) (w : Way) (d : Effect) → (s ≡ sessionOf unmade → settled s buf x w d .session ≡ s) → Sound s
+    → Sound (settled s buf x w d .session)
+settled-sound s buf x w (refuse r) f o = o
+settled-sound s buf x w (give m b t) f o =
+    record {
+      keys = o .keys;
+      not-made = λ z. f (o .not-made z) ∙ o .not-made z;
+      places = length-stored x w t (s .records) ∙ o .places;
+      once = once-stored x w t (s .records) (o .once);
+    }
+
+kept : (s : Session) (c : Call) → Sound s → Sound (outcomeOf s c .session)
+unfolding addOf protectOf unprotectOf
+kept s (add e x w rollover) o = add-sound s x w rollover (s .setup .made) (hasSsrc (s .records) x) (isFull (s .records)) refl refl o
+kept s (protect e buf n) o = settled-sound s buf (ssrcOf (take n buf)) Sending (protectDone s buf n) (protect-left s buf n) o
+kept s (unprotect e buf n) o = settled-sound s buf (ssrcOf (take n buf)) Receiving (unprotectDone s buf n) (unprotect-left s buf n) o
+
+-- ---- and every list
+
+record BothSound (s : Sessions) : Type 0 where
+  sending : Sound (s .sending)
+  receiving : Sound (s .receiving)
+
+next-sound : (s : Sessions) (c : Call) → BothSound s → BothSound (next s c)
+next-sound s (add sender x w r) o = record { sending = kept (s .sending) (add sender x w r) (o .sending); receiving = o .receiving }
+next-sound s (add receiver x w r) o = record { sending = o .sending; receiving = kept (s .receiving) (add receiver x w r) (o .receiving) }
+next-sound s (protect sender buf n) o = record { sending = kept (s .sending) (protect sender buf n) (o .sending); receiving = o .receiving }
+next-sound s (protect receiver buf n) o = record { sending = o .sending; receiving = kept (s .receiving) (protect receiver buf n) (o .receiving) }
+next-sound s (unprotect sender buf n) o = record { sending = kept (s .sending) (unprotect sender buf n) (o .sending); receiving = o .receiving }
+next-sound s (unprotect receiver buf n) o = record { sending = o .sending; receiving = kept (s .receiving) (unprotect receiver buf n) (o .receiving) }
+
+after-sound : (calls : List Call) (s : Sessions) → BothSound s → BothSound (after s calls)
+after-sound [] s o = o
+after-sound (c ∷ calls) s o = after-sound calls (next s c) (next-sound s c o)
+
+at-end : (e : End) (s : Sessions) → BothSound s → Sound (sessionAt e s)
+at-end sender s o = o .sending
+at-end receiver s o = o .receiving
+
+pub sessions-are-sound : SessionsAreSound
+sessions-are-sound =
+    record {
+      made = made;
+      kept = kept;
+      always =
+          λ key salt policy ids calls e.
+          at-end e (after (justMade key salt policy ids) calls)
+          (after-sound calls (justMade key salt policy ids) (record { sending = made key salt policy ids; receiving = made key salt policy ids }));
+    }
+
+-- ---- sets of ids
+
+same-ids : (ids others : List ℕ) → ((id : ℕ) → 0 < id → among ids id ≡ among others id) → idsOf ids ≡ idsOf others
+unfolding idsOf
+same-ids ids others e = tabulate-ext 256 (λ id. not (eqb id 0) && among ids id) (λ id. not (eqb id 0) && among others id) (λ id h. go id)
+  where
+    go : (id : ℕ) → (not (eqb id 0) && among ids id) ≡ (not (eqb id 0) && among others id)
+    go zero = refl
+    go (suc id) = rw (e (suc id) (omega arith))
+
+pub equal-sets : EqualSetsEqualSessions
+unfolding makeOf
+equal-sets = record { equal = λ key salt policy ids others e. rw (same-ids ids others e) }

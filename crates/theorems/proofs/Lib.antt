@@ -1,0 +1,10 @@
+pub mod Records
+pub mod Refusing
+pub mod Settling
+pub mod Holding
+pub mod Sending
+pub mod Arriving
+pub mod Exchanging
+pub mod Answering
+pub mod Keeping
+pub mod Meeting

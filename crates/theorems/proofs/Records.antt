@@ -1,0 +1,252 @@
+-- Laws of the records: what is stored is found, every other record stays, stores for different streams commute; a record added.
+use mathlib.Core.Path.{_≡_, refl, _∙_, sym}
+use mathlib.Core.Bool.{Bool, true, false, not, _&&_, _||_}
+use mathlib.Core.List.{List, [], _∷_}
+use Prim.Native.Nat.{ℕ}
+use native.Mathlib.Omega.{arith}
+use borrow.Author.Tests.{eq-eqb, eqb-true}
+use lib.Dec.{eqb}
+use Rattle.bits.specs.Pick.{pick}
+use Rattle.bits.specs.declared.refusal.Refusal.the-variants as refusal
+use Rattle.packet.specs.declared.policy.Way.{Way}
+use Rattle.packet.specs.declared.policy.Way.the-variants.{Sending, Receiving}
+use Rattle.packet.proofs.Crypting.{and-left, and-right}
+use Rattle.packet.proofs.Layouts.{apart}
+use Rattle.replay.specs.declared.state.ReplayState.{ReplayState}
+use Rattle.srtp.specs.declared.session.Kind.{Kind}
+use Rattle.srtp.specs.declared.session.Kind.the-variants.{Free, Sender, Receiver}
+use Rattle.srtp.specs.declared.session.Record.{Record}
+use Rattle.srtp.specs.declared.session.Session.{Session}
+use Rattle.srtp.specs.Records.{kindOf, serves, isFree, isFor, freshRecord, none, some, recordFor, withReplay, storeFor, hasSsrc, isFull, placed}
+use Rattle.srtp.specs.Making.{Made}
+use Rattle.srtp.specs.Adding.{notAdded, addOf}
+
+-- ---- tests
+
+pub clash : {A : Type 0} (b : Bool) → b ≡ true → b ≡ false → A
+clash b p q = apart cc
+
+and-false : (a b : Bool) → (a ≡ true → b ≡ true → ⊥) → (a && b) ≡ false
+and-false true true h = absurd (h refl refl)
+and-false true false h = refl
+and-false false b h = refl
+
+pub or-false : (a b : Bool) → (a || b) ≡ false → b ≡ false
+or-false true b e = clash true refl e
+or-false false b e = e
+
+serves-one : (k : Kind) (w v : Way) → serves k w ≡ true → serves k v ≡ true → w ≡ v
+serves-one Free w v p q = clash false p refl
+serves-one Sender Sending Sending p q = refl
+serves-one Sender Sending Receiving p q = clash false q refl
+serves-one Sender Receiving v p q = clash false p refl
+serves-one Receiver Sending v p q = clash false p refl
+serves-one Receiver Receiving Sending p q = clash false q refl
+serves-one Receiver Receiving Receiving p q = refl
+
+serves-own : (w : Way) → serves (kindOf w) w ≡ true
+serves-own Sending = refl
+serves-own Receiving = refl
+
+serving : (k : Kind) (w : Way) → serves k w ≡ true → isFree k ≡ false
+serving Free w e = sym e
+serving Sender w e = refl
+serving Receiver w e = refl
+
+free-serves : (k : Kind) (w : Way) → isFree k ≡ true → serves k w ≡ false
+free-serves Free w e = refl
+free-serves Sender w e = clash false e refl
+free-serves Receiver w e = clash false e refl
+
+pub free-for : (r : Record) (x : ℕ) (w : Way) → isFree (r .kind) ≡ true → isFor r x w ≡ false
+free-for r x w e = and-false (eqb (r .ssrc) x) (serves (r .kind) w) (λ p q. clash (serves (r .kind) w) q (free-serves (r .kind) w e))
+
+fresh-for : (x : ℕ) (w : Way) (rollover : ℕ) → isFor (freshRecord x w rollover) x w ≡ true
+fresh-for x w rollover = rw (eq-eqb x x refl) (serves-own w)
+
+-- ---- a replay state stored
+
+module _ (x : ℕ) (w : Way) (t : ReplayState) where
+  same-step : (q : Record) (l : List Record) (r : Record) (b : Bool) → isFor q x w ≡ b
+      → (recordFor l x w ≡ some r → recordFor (storeFor l x w t) x w ≡ some (withReplay r t))
+      → pick b (some q) (recordFor l x w) ≡ some r → recordFor (pick b (withReplay q t ∷ l) (q ∷ storeFor l x w t)) x w ≡ some (withReplay r t)
+  same-step q l r true h rec e = let z : q ≡ r = cc in rw (h, z)
+  same-step q l r false h rec e = rw h (rec e)
+
+  pub found-stored : (l : List Record) (r : Record) → recordFor l x w ≡ some r → recordFor (storeFor l x w t) x w ≡ some (withReplay r t)
+  found-stored [] r e = apart cc
+  found-stored (q ∷ l) r e = same-step q l r (isFor q x w) refl (found-stored l r) e
+
+module _ (x y : ℕ) (w v : Way) (differ : w ≡ v → x ≡ y → ⊥) where
+  other : (r : Record) → isFor r x w ≡ true → isFor r y v ≡ false
+  other r e =
+      let p : eqb (r .ssrc) x ≡ true = and-left (eqb (r .ssrc) x) (serves (r .kind) w) e in
+      let q : serves (r .kind) w ≡ true = and-right (eqb (r .ssrc) x) (serves (r .kind) w) e in
+      and-false (eqb (r .ssrc) y) (serves (r .kind) v)
+      (λ f g. differ (serves-one (r .kind) w v q g) (sym (eqb-true (r .ssrc) x p) ∙ eqb-true (r .ssrc) y f))
+
+  other-step : (t : ReplayState) (q : Record) (l : List Record) (b : Bool) → isFor q x w ≡ b → recordFor (storeFor l x w t) y v ≡ recordFor l y v
+      → recordFor (pick b (withReplay q t ∷ l) (q ∷ storeFor l x w t)) y v ≡ recordFor (q ∷ l) y v
+  other-step t q l true h rec = rw (other q h)
+  other-step t q l false h rec = rw rec
+
+  pub found-other : (t : ReplayState) (l : List Record) → recordFor (storeFor l x w t) y v ≡ recordFor l y v
+  found-other t [] = refl
+  found-other t (q ∷ l) = other-step t q l (isFor q x w) refl (found-other t l)
+
+  both-step : (t s : ReplayState) (q : Record) (l : List Record) (b c : Bool) → isFor q x w ≡ b → isFor q y v ≡ c
+      → storeFor (storeFor l x w t) y v s ≡ storeFor (storeFor l y v s) x w t
+      → storeFor (pick b (withReplay q t ∷ l) (q ∷ storeFor l x w t)) y v s ≡ storeFor (pick c (withReplay q s ∷ l) (q ∷ storeFor l y v s)) x w t
+  both-step t s q l true true h k rec = clash _ k (other q h)
+  both-step t s q l true false h k rec = rw (h, k)
+  both-step t s q l false true h k rec = rw (h, k)
+  both-step t s q l false false h k rec = rw (h, k, rec)
+
+  pub stores-commute : (t s : ReplayState) (l : List Record) → storeFor (storeFor l x w t) y v s ≡ storeFor (storeFor l y v s) x w t
+  stores-commute t s [] = refl
+  stores-commute t s (q ∷ l) = both-step t s q l (isFor q x w) (isFor q y v) refl refl (stores-commute t s l)
+
+pub stored-ssrc : (x y : ℕ) (w : Way) (t : ReplayState) (l : List Record) → hasSsrc (storeFor l y w t) x ≡ hasSsrc l x
+stored-ssrc x y w t [] = refl
+stored-ssrc x y w t (q ∷ l) = go (isFor q y w) (stored-ssrc x y w t l)
+  where
+    go : (b : Bool) → hasSsrc (storeFor l y w t) x ≡ hasSsrc l x → hasSsrc (pick b (withReplay q t ∷ l) (q ∷ storeFor l y w t)) x ≡ hasSsrc (q ∷ l) x
+    go true rec = refl
+    go false rec = rw rec
+
+-- ---- a record placed
+
+pub none-found : (l : List Record) (x : ℕ) (w : Way) → hasSsrc l x ≡ false → recordFor l x w ≡ none
+none-found [] x w e = refl
+none-found (q ∷ l) x w e = go (isFor q x w) refl (none-found l x w)
+  where
+    go : (b : Bool) → isFor q x w ≡ b → (hasSsrc l x ≡ false → recordFor l x w ≡ none) → pick b (some q) (recordFor l x w) ≡ none
+    go true h rec =
+        let p : eqb (q .ssrc) x ≡ true = and-left (eqb (q .ssrc) x) (serves (q .kind) w) h in
+        let s : isFree (q .kind) ≡ false = serving (q .kind) w (and-right (eqb (q .ssrc) x) (serves (q .kind) w) h) in
+        let f : hasSsrc (q ∷ l) x ≡ true = simp (s, p) in
+        clash _ f e
+    go false h rec = rec (or-false (not (isFree (q .kind)) && eqb (q .ssrc) x) (hasSsrc l x) e)
+
+module _ (x : ℕ) (w : Way) (rollover : ℕ) where
+  new-step : (q : Record) (l : List Record) (b : Bool) → isFree (q .kind) ≡ b
+      → (isFull l ≡ false → recordFor l x w ≡ none → recordFor (placed l (freshRecord x w rollover)) x w ≡ some (freshRecord x w rollover))
+      → (not b && isFull l) ≡ false → recordFor (q ∷ l) x w ≡ none
+      → recordFor (pick b (freshRecord x w rollover ∷ l) (q ∷ placed l (freshRecord x w rollover))) x w ≡ some (freshRecord x w rollover)
+  new-step q l true h rec f e = rw (fresh-for x w rollover)
+  new-step q l false h rec f e = go (isFor q x w) refl e
+    where
+      go : (c : Bool) → isFor q x w ≡ c → pick c (some q) (recordFor l x w) ≡ none
+          → recordFor (q ∷ placed l (freshRecord x w rollover)) x w ≡ some (freshRecord x w rollover)
+      go true k m = apart cc
+      go false k m = rw k (rec f m)
+
+  new-found : (l : List Record) → isFull l ≡ false → recordFor l x w ≡ none
+      → recordFor (placed l (freshRecord x w rollover)) x w ≡ some (freshRecord x w rollover)
+  new-found [] f e = clash true refl f
+  new-found (q ∷ l) f e = new-step q l (isFree (q .kind)) refl (new-found l) f e
+
+old-step : (q n : Record) (l : List Record) (x : ℕ) (w : Way) (b : Bool) → isFree (q .kind) ≡ b → isFor n x w ≡ false
+    → recordFor (placed l n) x w ≡ recordFor l x w → recordFor (pick b (n ∷ l) (q ∷ placed l n)) x w ≡ recordFor (q ∷ l) x w
+old-step q n l x w true h m rec = rw (m, free-for q x w h)
+old-step q n l x w false h m rec = rw rec
+
+old-found : (l : List Record) (n : Record) (x : ℕ) (w : Way) → isFor n x w ≡ false → recordFor (placed l n) x w ≡ recordFor l x w
+old-found [] n x w m = refl
+old-found (q ∷ l) n x w m = old-step q n l x w (isFree (q .kind)) refl m (old-found l n x w m)
+
+placed-step : (x : ℕ) (q n : Record) (l : List Record) (b : Bool) → isFree (q .kind) ≡ b → (hasSsrc (placed l n) x ≡ false → hasSsrc l x ≡ false)
+    → hasSsrc (pick b (n ∷ l) (q ∷ placed l n)) x ≡ false → hasSsrc (q ∷ l) x ≡ false
+placed-step x q n l true h rec e = rw h (or-false (not (isFree (n .kind)) && eqb (n .ssrc) x) (hasSsrc l x) e)
+placed-step x q n l false h rec e = go (not (isFree (q .kind)) && eqb (q .ssrc) x) e
+  where
+    go : (c : Bool) → (c || hasSsrc (placed l n) x) ≡ false → (c || hasSsrc l x) ≡ false
+    go true k = k
+    go false k = rec k
+
+placed-ssrc : (x : ℕ) (n : Record) (l : List Record) → hasSsrc (placed l n) x ≡ false → hasSsrc l x ≡ false
+placed-ssrc x n [] e = e
+placed-ssrc x n (q ∷ l) e = placed-step x q n l (isFree (q .kind)) refl (placed-ssrc x n l) e
+
+-- ---- add, by its tests
+
+abbrev pub addBy : Session → ℕ → Way → ℕ → Bool → Bool → Bool → Made
+addBy s x w rollover a b c =
+    pick (not a) (notAdded s refusal.Keys)
+    (pick b (notAdded s refusal.Twice)
+    (pick c (notAdded s refusal.Full)
+    (record { number = 0; session = record { setup = s .setup; records = placed (s .records) (freshRecord x w rollover) } })))
+
+module _ (s : Session) (x : ℕ) (w : Way) (rollover : ℕ) where
+  pub add-is : addOf s x w rollover ≡ addBy s x w rollover (s .setup .made) (hasSsrc (s .records) x) (isFull (s .records))
+  unfolding addOf
+  add-is = refl
+
+  -- with a result, the new record is found
+  done-by : (a b c : Bool) → hasSsrc (s .records) x ≡ b → isFull (s .records) ≡ c → addBy s x w rollover a b c .number ≡ 0
+      → recordFor (addBy s x w rollover a b c .session .records) x w ≡ some (freshRecord x w rollover)
+  done-by false b c q k m = absurd (omega arith)
+  done-by true true c q k m = absurd (omega arith)
+  done-by true false true q k m = absurd (omega arith)
+  done-by true false false q k m = new-found x w rollover (s .records) k (none-found (s .records) x w q)
+
+  pub add-found : addOf s x w rollover .number ≡ 0 → recordFor (addOf s x w rollover .session .records) x w ≡ some (freshRecord x w rollover)
+  unfolding addOf
+  add-found e = done-by (s .setup .made) (hasSsrc (s .records) x) (isFull (s .records)) refl refl e
+
+  setup-by : (a b c : Bool) → addBy s x w rollover a b c .session .setup ≡ s .setup
+  setup-by false b c = refl
+  setup-by true true c = refl
+  setup-by true false true = refl
+  setup-by true false false = refl
+
+  pub add-setup : addOf s x w rollover .session .setup ≡ s .setup
+  unfolding addOf
+  add-setup = setup-by (s .setup .made) (hasSsrc (s .records) x) (isFull (s .records))
+
+  -- and it was not there before
+  new-by : (a b c : Bool) → addBy s x w rollover a b c .number ≡ 0 → b ≡ false
+  new-by false b c m = absurd (omega arith)
+  new-by true true c m = absurd (omega arith)
+  new-by true false c m = refl
+
+  pub add-new : addOf s x w rollover .number ≡ 0 → hasSsrc (s .records) x ≡ false
+  unfolding addOf
+  add-new e = new-by (s .setup .made) (hasSsrc (s .records) x) (isFull (s .records)) e
+
+  made-by : (a b c : Bool) → addBy s x w rollover a b c .number ≡ 0 → a ≡ true
+  made-by false b c m = absurd (omega arith)
+  made-by true b c m = refl
+
+  pub add-made : addOf s x w rollover .number ≡ 0 → s .setup .made ≡ true
+  unfolding addOf
+  add-made e = made-by (s .setup .made) (hasSsrc (s .records) x) (isFull (s .records)) e
+
+  absent-by : (y : ℕ) (a b c : Bool) → hasSsrc (addBy s x w rollover a b c .session .records) y ≡ false → hasSsrc (s .records) y ≡ false
+  absent-by y false b c e = e
+  absent-by y true true c e = e
+  absent-by y true false true e = e
+  absent-by y true false false e = placed-ssrc y (freshRecord x w rollover) (s .records) e
+
+  pub add-absent : (y : ℕ) → hasSsrc (addOf s x w rollover .session .records) y ≡ false → hasSsrc (s .records) y ≡ false
+  unfolding addOf
+  add-absent y e = absent-by y (s .setup .made) (hasSsrc (s .records) x) (isFull (s .records)) e
+
+-- a record that is there stays
+module _ (s : Session) (y : ℕ) (v : Way) (rollover : ℕ) (x : ℕ) (w : Way) (r : Record) (e : recordFor (s .records) x w ≡ some r) where
+  not-new : hasSsrc (s .records) y ≡ false → isFor (freshRecord y v rollover) x w ≡ false
+  not-new h =
+      and-false (eqb y x) (serves (kindOf v) w) (λ f g.
+      let z : y ≡ x = eqb-true y x f in
+      let n : recordFor (s .records) x w ≡ none = none-found (s .records) x w (rw z at h) in
+      apart cc)
+
+  keeps-by : (a b c : Bool) → hasSsrc (s .records) y ≡ b → recordFor (addBy s y v rollover a b c .session .records) x w ≡ some r
+  keeps-by false b c h = e
+  keeps-by true true c h = e
+  keeps-by true false true h = e
+  keeps-by true false false h = old-found (s .records) (freshRecord y v rollover) x w (not-new h) ∙ e
+
+  pub add-keeps : recordFor (addOf s y v rollover .session .records) x w ≡ some r
+  unfolding addOf
+  add-keeps = keeps-by (s .setup .made) (hasSsrc (s .records) y) (isFull (s .records)) refl

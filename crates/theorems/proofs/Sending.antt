@@ -1,0 +1,255 @@
+-- What a stream sends: each packet was protected under the index that the paper's rule gives it.
+use mathlib.Core.Path.{_≡_, refl, ap, _∙_, sym, subst}
+use mathlib.Core.Bool.{Bool, true, false, not, _&&_}
+use mathlib.Core.List.{List, [], _∷_}
+use Prim.Native.Nat.{ℕ, suc, _+_, _-_, _*_, _%_, _^_, _<_}
+use native.Mathlib.Decide.{decLt}
+use native.Mathlib.Omega.{arith}
+use borrow.Author.Tests.{ne-eqb, eqb-true, eqb-false}
+use lib.Dec.{eqb, ltb}
+use lib.ListN.{length, getD, take, drop, length-take, List·getD-eq-default}
+use lib.Seq.{take-at, getD-take, length-take-le}
+use Rattle.bits.specs.Pick.{pick}
+use Rattle.bits.specs.Refusals.{numberOf}
+use Rattle.bits.specs.declared.refusal.Refusal.the-variants as refusal
+use Rattle.rtp.specs.Header.{headerNumber, layoutOf, seqOf, ssrcOf}
+use Rattle.replay.specs.declared.answer.Judged.{Judged}
+use Rattle.replay.specs.declared.answer.Judged.the-variants.{Index, Refused as NoIndex}
+use Rattle.replay.specs.declared.state.ReplayState.{ReplayState}
+use Rattle.replay.specs.Claims.{Gives}
+use Rattle.replay.specs.Guess.{lowOf}
+use Rattle.replay.specs.Send.{stepOf, sentOf, sendOf}
+use Rattle.replay.proofs.Indices.{next-gives, sending}
+use Rattle.packet.specs.declared.policy.Way.the-variants.{Sending, Receiving}
+use Rattle.packet.specs.Claims.{RoundTrip}
+use Rattle.packet.specs.Judging.{addedOf, judgedOf}
+use Rattle.packet.specs.Wire.{wireOf, restoreOf}
+use Rattle.packet.proofs.Layouts.{apart}
+use Rattle.packet.proofs.RoundTrips.{sent-is-given-back}
+use Rattle.srtp.specs.declared.session.Record.{Record}
+use Rattle.srtp.specs.declared.session.Setup.{Setup}
+use Rattle.srtp.specs.declared.session.Session.{Session}
+use Rattle.srtp.specs.Records.{some, withReplay, storeFor, freshRecord}
+use Rattle.srtp.specs.Making.{setupOf, sessionOf, Made, notMade, makeOf}
+use Rattle.srtp.specs.Packets.{tagLength, listedBy, Effect, refuse, give, wireLength, protectEffect, Outcome, settled, protectOf, unprotectOf}
+use Rattle.theorems.specs.Lists.{sender, receiver, Call, add, protect, unprotect, Sessions, justMade, Event, eventsOf, Each, Bytes}
+use Rattle.theorems.specs.Sent.{Sent, Last, nothing, behind, indexOf, sentBy, sentFrom, added, noEvent, SentAs, SentUnderItsIndex}
+use Rattle.theorems.proofs.Records.{clash, found-stored}
+use Rattle.theorems.proofs.Refusing.{above-zero}
+use Rattle.theorems.proofs.Settling.{Given, given}
+use Rattle.theorems.proofs.Holding.{protectDone, unprotectDone, Holds, holds-add, holds-settled, Behind, behind-add, nothing-before}
+
+ways-differ : Receiving ≡ Sending → ⊥
+ways-differ e = apart cc
+
+take-bytes : (n : ℕ) (buf : List ℕ) → ((i : ℕ) → getD buf i 0 < 256) → (i : ℕ) → getD (take n buf) i 0 < 256
+take-bytes n buf b i =
+    elim (decLt i n) [
+      | yes h ↦ rw (getD-take n buf i 0 h) (b i)
+      | no h ↦ let l : length (take n buf) < suc i = omega (arith, length-take n buf) in rw (List·getD-eq-default (take n buf) 0 {n = i} (omega arith)) (omega arith)
+    ]
+
+seq-small : (p : List ℕ) → ((i : ℕ) → getD p i 0 < 256) → seqOf p < 65536
+unfolding seqOf
+seq-small p b = omega (arith, b 2, b 3)
+
+-- ---- the index
+
+-- a sender's state knows the packet sent before
+abbrev pub Knows : Last → ReplayState → Type 0
+Knows nothing t = t .started ≡ false
+Knows (behind s) t = (t .started ≡ true) × (t .highest ≡ s .index) × (lowOf (s .index) ≡ seqOf (s .packet))
+
+gives-at : (P : ℕ → Type 0) (j : Judged) (i : ℕ) → j ≡ Index i → Gives P j → P i
+gives-at P (Index k) i e g = let z : k ≡ i = cc in subst P z g
+gives-at P (NoIndex r) i e g = apart cc
+
+pub record Indexed (rollover : ℕ) (last : Last) (p : List ℕ) (i : ℕ) : Type 0 where
+  pub index : indexOf rollover last p ≡ i
+  pub low : lowOf i ≡ seqOf p
+  pub small : i < 2 ^ 48
+
+module _ (t : ReplayState) (rollover : ℕ) (large : rollover < 2 ^ 32) (p : List ℕ) (bytes : (i : ℕ) → getD p i 0 < 256) (i : ℕ)
+    (step : sendOf t rollover (seqOf p) .judged ≡ Index i) where
+  from : (P : ℕ → Type 0) → (t .started ≡ false → P (rollover * 65536 + seqOf p)) → (t .started ≡ true → P (t .highest + stepOf (t .highest) (seqOf p))) → P i
+  unfolding sendOf
+  from P f g = gives-at P (sendOf t rollover (seqOf p) .judged) i step (next-gives t rollover (seqOf p) P f (λ e a b. g e))
+
+  index-is : (last : Last) → Knows last t → indexOf rollover last p ≡ i
+  unfolding stepOf
+  index-is nothing k = from (λ m. rollover * 65536 + seqOf p ≡ m) (λ e. refl) (λ e. clash _ e k)
+  index-is (behind s) (a, b, c) =
+      from (λ m. s .index + (seqOf p + 65536 - seqOf (s .packet)) % 65536 ≡ m) (λ e. clash _ a e) (λ e. rw (b, c))
+
+  pub indexed : (last : Last) → Knows last t → Indexed rollover last p i
+  indexed last k =
+      let s = sending t rollover (seqOf p) large (seq-small p bytes) in
+      record { index = index-is last k; low = gives-at (λ m. lowOf m ≡ seqOf p) _ i step (s .low); small = gives-at (λ m. m < 2 ^ 48) _ i step (s .small) }
+
+  pub state-is : sendOf t rollover (seqOf p) .state ≡ record { started = true; highest = i; window = t .window }
+  unfolding sendOf
+  state-is = ap (sentOf t) step
+
+-- ---- a packet that was sent
+
+pub record Good (h : Setup) (x : ℕ) (s : Sent) : Type 0 where
+  pub passes : headerNumber (judgedOf Sending (h .policy) tagLength (s .packet)) ≡ 0
+  pub bytes : (i : ℕ) → getD (s .packet) i 0 < 256
+  pub ssrc : ssrcOf (s .packet) ≡ x
+  pub small : s .index < 2 ^ 48
+  pub low : lowOf (s .index) ≡ seqOf (s .packet)
+  pub wire : s .wire ≡ wireOf tagLength (h .keys) (h .policy) (listedBy h) x (s .index) (s .packet)
+
+-- what packet says of it
+pub trip : (h : Setup) (x i : ℕ) (p : List ℕ) → ((k : ℕ) → getD p k 0 < 256) → headerNumber (judgedOf Sending (h .policy) tagLength p) ≡ 0
+    → RoundTrip (h .policy) tagLength p (wireOf tagLength (h .keys) (h .policy) (listedBy h) x i p)
+    (restoreOf tagLength (h .keys) (h .policy) (listedBy h) x i (wireOf tagLength (h .keys) (h .policy) (listedBy h) x i p))
+trip h x i p bytes passes = sent-is-given-back .back (h .keys) (h .policy) (listedBy h) x i tagLength p (omega arith) bytes passes
+
+module _ (h : Setup) (x rollover : ℕ) (large : rollover < 2 ^ 32) where
+  -- a sender's session between two of its calls
+  record Keeps (last : Last) (s : Session) : Type 0 where
+    rec : Record
+    holds : Holds h x Sending rec s
+    start : rec .rollover ≡ rollover
+    knows : Knows last (rec .replay)
+
+  -- a protect in the sender's session; K is what the calls after it send
+  module _ (s : Session) (buf : List ℕ) (n : ℕ) (bytes : (i : ℕ) → getD buf i 0 < 256) (last : Last) (o : Keeps last s)
+      (K : Last → Session → List Sent) (ih : (l : Last) (t : Session) → Keeps l t → Each (Good h x) (K l t)) where
+    abbrev outcome : Effect → Outcome
+    outcome d = settled s buf (ssrcOf (take n buf)) Sending d
+
+    abbrev sentHere : Bool → Effect → List Sent
+    sentHere b d =
+        pick (b && eqb (outcome d .answer .number) 0)
+        (sentBy rollover last (take n buf) (outcome d .answer) ∷ K (behind (sentBy rollover last (take n buf) (outcome d .answer))) (outcome d .session))
+        (K last (outcome d .session))
+
+    own : ssrcOf (take n buf) ≡ x → protectDone s buf n ≡ protectEffect h buf n (some (o .rec))
+    own e = rw (e, o .holds .setup, o .holds .found)
+
+    module _ (e : ssrcOf (take n buf) ≡ x) (m : ℕ) (b : List ℕ) (t : ReplayState) (g : Given h buf n (o .rec) m b t) where
+      all-bytes : (i : ℕ) → getD (take n buf) i 0 < 256
+      all-bytes = take-bytes n buf bytes
+
+      step : sendOf (o .rec .replay) rollover (seqOf (take n buf)) .judged ≡ Index (g .index)
+      step = rw (o .start) at (g .step)
+
+      numbered : Indexed rollover last (take n buf) (g .index)
+      numbered = indexed (o .rec .replay) rollover large (take n buf) all-bytes (g .index) step last (o .knows)
+
+      abbrev wire : List ℕ
+      wire = wireOf tagLength (h .keys) (h .policy) (listedBy h) x (g .index) (take n buf)
+
+      on-wire : take m b ≡ wire
+      on-wire =
+          let size : length wire ≡ length (take n buf) + addedOf Sending (h .policy) tagLength (layoutOf (take n buf)) = trip h x (g .index) (take n buf) all-bytes (g .passes) .size in
+          let k : length (take n buf) ≡ n = length-take-le n buf (g .inside) in
+          let w : length wire ≡ wireLength h buf n = omega arith in
+          rw (g .size, g .buffer, e) (take-at wire (drop (wireLength h buf n) buf) (wireLength h buf n) w)
+
+      good : Good h x (sentBy rollover last (take n buf) (record { number = 0; length = m; buffer = b }))
+      good =
+          record {
+            passes = g .passes;
+            bytes = all-bytes;
+            ssrc = e;
+            small = rw (numbered .index) (numbered .small);
+            low = rw (numbered .index) (numbered .low);
+            wire = rw (numbered .index) on-wire;
+          }
+
+      keeps : Keeps (behind (sentBy rollover last (take n buf) (record { number = 0; length = m; buffer = b })))
+          (record { setup = s .setup; records = storeFor (s .records) (ssrcOf (take n buf)) Sending t })
+      keeps =
+          let after : t ≡ record { started = true; highest = g .index; window = o .rec .replay .window }
+          = (rw (o .start) at (g .state)) ∙ state-is (o .rec .replay) rollover large (take n buf) all-bytes (g .index) step in
+          record {
+            rec = withReplay (o .rec) t;
+            holds = record { setup = o .holds .setup; found = rw e (found-stored x Sending t (s .records) (o .rec) (o .holds .found)) };
+            start = o .start;
+            knows = rw (numbered .index, after) (refl, refl, numbered .low);
+          }
+
+    by-effect : (b : Bool) (d : Effect) → eqb (ssrcOf (take n buf)) x ≡ b → protectDone s buf n ≡ d → Each (Good h x) (sentHere b d)
+    by-effect false d e f =
+        ih last (outcome d .session)
+        (record {
+          rec = o .rec;
+          holds = holds-settled h x Sending (o .rec) s buf (ssrcOf (take n buf)) Sending d (λ w y. eqb-false (ssrcOf (take n buf)) x e y) (o .holds);
+          start = o .start;
+          knows = o .knows;
+        })
+    by-effect true (refuse r) e f = rw (ne-eqb (numberOf r) 0 (λ q. omega (arith, above-zero r))) (ih last s o)
+    by-effect true (give m b t) e f =
+        let y : ssrcOf (take n buf) ≡ x = eqb-true (ssrcOf (take n buf)) x e in
+        let g : Given h buf n (o .rec) m b t = given h buf n (o .rec) m b t (sym (own y) ∙ f) in
+        (good y m b t g, ih _ _ (keeps y m b t g))
+
+  all-good : (cs : List Call) → Each Bytes cs → (s : Sessions) (last : Last) → Keeps last (s .sending) → Each (Good h x) (sentFrom x rollover last (eventsOf s cs))
+  unfolding protectOf unprotectOf
+  all-good [] b s last o = tt
+  all-good (add sender y v r ∷ cs) b s last o =
+      all-good cs (b .1) _ last (record { rec = o .rec; holds = holds-add h x Sending (o .rec) (s .sending) y v r (o .holds); start = o .start; knows = o .knows })
+  all-good (add receiver y v r ∷ cs) b s last o = all-good cs (b .1) _ last o
+  all-good (protect sender buf n ∷ cs) b s last o =
+      by-effect (s .sending) buf n (b .0) last o
+      (λ l t. sentFrom x rollover l (eventsOf (record { sending = t; receiving = s .receiving }) cs))
+      (λ l t k. all-good cs (b .1) (record { sending = t; receiving = s .receiving }) l k)
+      _ _ refl refl
+  all-good (protect receiver buf n ∷ cs) b s last o = all-good cs (b .1) _ last o
+  all-good (unprotect sender buf n ∷ cs) b s last o =
+      all-good cs (b .1) _ last
+      (record {
+        rec = o .rec;
+        holds = holds-settled h x Sending (o .rec) (s .sending) buf (ssrcOf (take n buf)) Receiving (unprotectDone (s .sending) buf n) (λ w y. ways-differ w) (o .holds);
+        start = o .start;
+        knows = o .knows;
+      })
+  all-good (unprotect receiver buf n ∷ cs) b s last o = all-good cs (b .1) _ last o
+
+  pub sent-good : (rest : List Event) → Behind h sender x Sending rollover rest → Each (Good h x) (sentFrom x rollover nothing rest)
+  sent-good rest a =
+      rw (a .run) (all-good (a .calls) (a .bytes) (a .sessions) nothing
+      (record { rec = freshRecord x Sending rollover; holds = a .holds; start = refl; knows = refl }))
+
+-- ---- the whole list
+
+module _ (key salt : List ℕ) (policy : ℕ) (ids : List ℕ) where
+  abbrev pub setup : Setup
+  setup = makeOf key salt policy ids .session .setup
+
+  abbrev pub madeBy : Bool → Bool → Made
+  madeBy a b =
+      pick a (notMade refusal.Keys) (pick b (notMade refusal.Policy) (record { number = 0; session = sessionOf (setupOf key salt policy ids) }))
+
+  pub made-setup : setup .made ≡ true → setup ≡ setupOf key salt policy ids
+  unfolding makeOf
+  made-setup e = go (not (eqb (length key) 16 && eqb (length salt) 14)) (ltb 3 policy) e
+    where
+      go : (a b : Bool) → madeBy a b .session .setup .made ≡ true → madeBy a b .session .setup ≡ setupOf key salt policy ids
+      go true b m = clash false m refl
+      go false true m = clash false m refl
+      go false false m = refl
+
+  pub all-sent : (calls : List Call) → Each Bytes calls → (x rollover i : ℕ) → rollover < 2 ^ 32
+      → getD (eventsOf (justMade key salt policy ids) calls) i noEvent ≡ added sender x Sending rollover
+      → Each (Good setup x) (sentFrom x rollover nothing (eventsOf (justMade key salt policy ids) calls))
+  all-sent calls bytes x rollover i large q =
+      rw (nothing-before x rollover calls (justMade key salt policy ids) i nothing q)
+      (sent-good setup x rollover large (drop (suc i) (eventsOf (justMade key salt policy ids) calls))
+      (behind-add setup sender x Sending rollover calls bytes (justMade key salt policy ids) i refl q))
+
+  sent-as : (x : ℕ) → setup .made ≡ true → (l : List Sent) → Each (Good setup x) l → Each (SentAs key salt policy ids x) l
+  sent-as x made [] g = tt
+  sent-as x made (s ∷ l) (g, gs) =
+      (record { ssrc = g .ssrc; low = g .low; small = g .small; wire = rw (made-setup made) at (g .wire) }, sent-as x made l gs)
+
+pub sent-under-its-index : SentUnderItsIndex
+unfolding SentUnderItsIndex
+sent-under-its-index key salt policy ids calls bytes x rollover i large q =
+    sent-as key salt policy ids x
+    (behind-add (setup key salt policy ids) sender x Sending rollover calls bytes (justMade key salt policy ids) i refl q .made)
+    (sentFrom x rollover nothing (eventsOf (justMade key salt policy ids) calls))
+    (all-sent key salt policy ids calls bytes x rollover i large q)

@@ -1,0 +1,110 @@
+-- A packet call in its session: what it leaves, and a protect with a result read backwards.
+use mathlib.Core.Path.{_≡_, refl, sym, ap}
+use mathlib.Core.Bool.{Bool, true, false}
+use mathlib.Core.List.{List, _++_}
+use Prim.Native.Nat.{ℕ, _≤_}
+use borrow.Author.Tests.{ltb-false}
+use lib.Dec.{ltb}
+use lib.ListN.{length, take, drop}
+use Rattle.bits.specs.Pick.{pick}
+use Rattle.bits.specs.declared.refusal.Refusal.the-variants as refusal
+use Rattle.rtp.specs.declared.header.Header.{Header}
+use Rattle.rtp.specs.declared.header.Header.the-variants.{Read, Refused}
+use Rattle.rtp.specs.Header.{headerNumber, seqOf, ssrcOf}
+use Rattle.replay.specs.declared.answer.Judged.{Judged}
+use Rattle.replay.specs.declared.answer.Judged.the-variants.{Index, Refused as NoIndex}
+use Rattle.replay.specs.declared.state.ReplayState.{ReplayState}
+use Rattle.replay.specs.Send.{sendOf}
+use Rattle.packet.specs.declared.policy.Way.{Way}
+use Rattle.packet.specs.declared.policy.Way.the-variants.{Sending}
+use Rattle.packet.specs.Judging.{judgedOf}
+use Rattle.packet.specs.Wire.{wireOf}
+use Rattle.packet.proofs.Layouts.{apart}
+use Rattle.srtp.specs.declared.session.Record.{Record}
+use Rattle.srtp.specs.declared.session.Setup.{Setup}
+use Rattle.srtp.specs.declared.session.Session.{Session}
+use Rattle.srtp.specs.Records.{none, some, recordFor}
+use Rattle.srtp.specs.Packets.{tagLength, listedBy, Effect, refuse, give, wireLength, protectAt, protectIn, protectRead, protectEffect, settled}
+use Rattle.theorems.proofs.Records.{found-other, stores-commute}
+
+-- ---- what a call leaves
+
+pub setup-settled : (s : Session) (buf : List ℕ) (x : ℕ) (w : Way) (e : Effect) → settled s buf x w e .session .setup ≡ s .setup
+setup-settled s buf x w (refuse r) = refl
+setup-settled s buf x w (give m b t) = refl
+
+pub answer-settled : (s t : Session) (buf : List ℕ) (x : ℕ) (w : Way) (e : Effect) → settled s buf x w e .answer ≡ settled t buf x w e .answer
+answer-settled s t buf x w (refuse r) = refl
+answer-settled s t buf x w (give m b a) = refl
+
+module _ (x y : ℕ) (w v : Way) (differ : w ≡ v → x ≡ y → ⊥) where
+  pub found-settled : (s : Session) (buf : List ℕ) (e : Effect) → recordFor (settled s buf x w e .session .records) y v ≡ recordFor (s .records) y v
+  found-settled s buf (refuse r) = refl
+  found-settled s buf (give m b t) = found-other x y w v differ t (s .records)
+
+  pub settled-commute : (s : Session) (b c : List ℕ) (d e : Effect)
+      → settled (settled s b x w d .session) c y v e .session ≡ settled (settled s c y v e .session) b x w d .session
+  settled-commute s b c (refuse r) (refuse q) = refl
+  settled-commute s b c (refuse r) (give m f t) = refl
+  settled-commute s b c (give m f t) (refuse r) = refl
+  settled-commute s b c (give m f t) (give n g o) =
+      ap (λ (l : List Record). record { setup = s .setup; records = l }) (stores-commute x y w v differ t o (s .records))
+
+-- ---- a protect with a result
+
+module _ (setup : Setup) (buf : List ℕ) (n : ℕ) where
+  pub record Given (r : Record) (m : ℕ) (b : List ℕ) (t : ReplayState) : Type 0 where
+    pub inside : n ≤ length buf
+    pub passes : headerNumber (judgedOf Sending (setup .policy) tagLength (take n buf)) ≡ 0
+    pub index : ℕ
+    pub step : sendOf (r .replay) (r .rollover) (seqOf (take n buf)) .judged ≡ Index index
+    pub size : m ≡ wireLength setup buf n
+    pub buffer : b ≡ wireOf tagLength (setup .keys) (setup .policy) (listedBy setup) (ssrcOf (take n buf)) index (take n buf) ++ drop (wireLength setup buf n) buf
+    pub state : t ≡ sendOf (r .replay) (r .rollover) (seqOf (take n buf)) .state
+
+  module _ (r : Record) (m : ℕ) (b : List ℕ) (t : ReplayState) (inside : n ≤ length buf) where
+    given-at : headerNumber (judgedOf Sending (setup .policy) tagLength (take n buf)) ≡ 0
+        → (j : Judged) → sendOf (r .replay) (r .rollover) (seqOf (take n buf)) .judged ≡ j
+        → protectAt setup buf n j (sendOf (r .replay) (r .rollover) (seqOf (take n buf)) .state) ≡ give m b t → Given r m b t
+    given-at p (NoIndex q) e g = apart cc
+    given-at p (Index i) e g =
+        let x : wireLength setup buf n ≡ m = cc in
+        let y : wireOf tagLength (setup .keys) (setup .policy) (listedBy setup) (ssrcOf (take n buf)) i (take n buf) ++ drop (wireLength setup buf n) buf ≡ b = cc in
+        let z : sendOf (r .replay) (r .rollover) (seqOf (take n buf)) .state ≡ t = cc in
+        record { inside = inside; passes = p; index = i; step = e; size = sym x; buffer = sym y; state = sym z }
+
+    given-in : (c : Bool) → headerNumber (judgedOf Sending (setup .policy) tagLength (take n buf)) ≡ 0
+        → pick c (refuse refusal.Room) (protectIn setup buf n (some r)) ≡ give m b t → Given r m b t
+    given-in true p g = apart cc
+    given-in false p g = given-at p _ refl g
+
+    given-read : (h : Header) → judgedOf Sending (setup .policy) tagLength (take n buf) ≡ h → protectRead setup buf n h (some r) ≡ give m b t → Given r m b t
+    given-read (Refused q) e g = apart cc
+    given-read (Read h) e g = given-in (ltb (length buf) (wireLength setup buf n)) (ap headerNumber e) g
+
+  given-first : (r : Record) (m : ℕ) (b : List ℕ) (t : ReplayState) (c : Bool) → ltb (length buf) n ≡ c
+      → pick c (refuse refusal.Length) (protectRead setup buf n (judgedOf Sending (setup .policy) tagLength (take n buf)) (some r)) ≡ give m b t → Given r m b t
+  given-first r m b t true e g = apart cc
+  given-first r m b t false e g = given-read r m b t (ltb-false (length buf) n e) _ refl g
+
+  pub given : (r : Record) (m : ℕ) (b : List ℕ) (t : ReplayState) → protectEffect setup buf n (some r) ≡ give m b t → Given r m b t
+  unfolding protectEffect
+  given r m b t g = given-first r m b t (ltb (length buf) n) refl g
+
+  -- without a record there is none
+  none-in : (c : Bool) (m : ℕ) (b : List ℕ) (t : ReplayState) → pick c (refuse refusal.Room) (protectIn setup buf n none) ≡ give m b t → ⊥
+  none-in true m b t g = apart cc
+  none-in false m b t g = apart cc
+
+  none-read : (h : Header) (m : ℕ) (b : List ℕ) (t : ReplayState) → protectRead setup buf n h none ≡ give m b t → ⊥
+  none-read (Refused q) m b t g = apart cc
+  none-read (Read h) m b t g = none-in (ltb (length buf) (wireLength setup buf n)) m b t g
+
+  none-first : (c : Bool) (m : ℕ) (b : List ℕ) (t : ReplayState)
+      → pick c (refuse refusal.Length) (protectRead setup buf n (judgedOf Sending (setup .policy) tagLength (take n buf)) none) ≡ give m b t → ⊥
+  none-first true m b t g = apart cc
+  none-first false m b t g = none-read (judgedOf Sending (setup .policy) tagLength (take n buf)) m b t g
+
+  pub none-given : (m : ℕ) (b : List ℕ) (t : ReplayState) → protectEffect setup buf n none ≡ give m b t → ⊥
+  unfolding protectEffect
+  none-given m b t g = none-first (ltb (length buf) n) m b t g

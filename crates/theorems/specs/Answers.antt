@@ -1,0 +1,38 @@
+-- Demand 1: "A call gives its result or one numbered refusal, and a refusal leaves the buffer and the session exactly as they were."
+use mathlib.Core.Path.{_≡_}
+use mathlib.Core.Bool.{true, false}
+use mathlib.Core.List.{List, [], _∷_}
+use Prim.Native.Nat.{ℕ}
+use Rattle.rtp.specs.Mask.{among}
+use Rattle.packet.specs.declared.policy.Way.{Way}
+use Rattle.srtp.specs.declared.session.Session.{Session}
+use Rattle.srtp.specs.Making.{unmade, sessionOf, makeOf}
+use Rattle.srtp.specs.Adding.{addOf}
+use Rattle.srtp.specs.Packets.{Outcome}
+use Rattle.theorems.specs.Lists.{Call, add, protect, unprotect, outcomeOf}
+
+-- document 01, "Numbers given back": 0 for a result, and the refusals of each call
+abbrev pub numbersFor : Call → List ℕ
+numbersFor (add e ssrc way rollover) = 0 ∷ 15 ∷ 17 ∷ 18 ∷ []
+numbersFor (protect e buf n) = 0 ∷ 1 ∷ 2 ∷ 3 ∷ 4 ∷ 5 ∷ 6 ∷ 7 ∷ 8 ∷ 9 ∷ 10 ∷ 11 ∷ []
+numbersFor (unprotect e buf n) = 0 ∷ 1 ∷ 2 ∷ 3 ∷ 4 ∷ 5 ∷ 6 ∷ 7 ∷ 9 ∷ 11 ∷ 12 ∷ 13 ∷ 14 ∷ []
+
+-- the buffer that a call is lent
+abbrev pub bufferOf : Call → List ℕ
+bufferOf (add e ssrc way rollover) = []
+bufferOf (protect e buf n) = buf
+bufferOf (unprotect e buf n) = buf
+
+pub record Settled (s : Session) (c : Call) (o : Outcome) : Type 0 where
+  pub number : among (numbersFor c) (o .answer .number) ≡ true
+  pub length : (o .answer .number ≡ 0 → ⊥) → o .answer .length ≡ 0
+  pub buffer : (o .answer .number ≡ 0 → ⊥) → o .answer .buffer ≡ bufferOf c
+  pub session : (o .answer .number ≡ 0 → ⊥) → o .session ≡ s
+
+pub record OneAnswerEach : Type 0 where
+  -- add, protect and unprotect, on any session, with anything in the buffer
+  pub calls : (s : Session) (c : Call) → Settled s c (outcomeOf s c)
+  -- make; a refused making gives the one unmade session, which takes no stream
+  pub number : (key salt : List ℕ) (policy : ℕ) (ids : List ℕ) → among (0 ∷ 15 ∷ 16 ∷ []) (makeOf key salt policy ids .number) ≡ true
+  pub refused : (key salt : List ℕ) (policy : ℕ) (ids : List ℕ) → (makeOf key salt policy ids .number ≡ 0 → ⊥) → makeOf key salt policy ids .session ≡ sessionOf unmade
+  pub no-stream : (s : Session) → s .setup .made ≡ false → (ssrc : ℕ) (way : Way) (rollover : ℕ) → addOf s ssrc way rollover .number ≡ 15

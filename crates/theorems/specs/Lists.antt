@@ -1,0 +1,92 @@
+-- Document 01, "Lists of calls in demand 3": calls on a sender's and a receiver's session. "Each call gets its session as the last call on it left it."
+use mathlib.Core.List.{List, [], _∷_}
+use Prim.Native.Nat.{ℕ, _<_}
+use lib.ListN.{getD}
+use Rattle.packet.specs.declared.policy.Way.{Way}
+use Rattle.srtp.specs.declared.session.Session.{Session}
+use Rattle.srtp.specs.Making.{Made, makeOf}
+use Rattle.srtp.specs.Adding.{addOf}
+use Rattle.srtp.specs.Packets.{Answer, Outcome, protectOf, unprotectOf}
+
+-- whose session a call is on
+pub data End : Type 0 where
+  sender : End
+  receiver : End
+
+-- add: SSRC, way and starting rollover. A packet call: what its buffer holds, and the length n that it is told.
+pub data Call : Type 0 where
+  add : End → ℕ → Way → ℕ → Call
+  protect : End → List ℕ → ℕ → Call
+  unprotect : End → List ℕ → ℕ → Call
+
+abbrev pub endOf : Call → End
+endOf (add e ssrc way rollover) = e
+endOf (protect e buf n) = e
+endOf (unprotect e buf n) = e
+
+pub record Sessions : Type 0 where
+  pub sending : Session
+  pub receiving : Session
+
+abbrev pub sessionAt : End → Sessions → Session
+sessionAt sender s = s .sending
+sessionAt receiver s = s .receiving
+
+abbrev pub withSession : End → Sessions → Session → Sessions
+withSession sender s t = record { sending = t; receiving = s .receiving }
+withSession receiver s t = record { sending = s .sending; receiving = t }
+
+-- "Both sessions start just made, with equal master key, master salt, policy and set."
+abbrev pub justMade : List ℕ → List ℕ → ℕ → List ℕ → Sessions
+justMade key salt policy ids = record { sending = makeOf key salt policy ids .session; receiving = makeOf key salt policy ids .session }
+
+-- ---- one call
+
+-- an add has neither length nor buffer
+abbrev pub addOutcome : Made → Outcome
+addOutcome m = record { answer = record { number = m .number; length = 0; buffer = [] }; session = m .session }
+
+abbrev pub outcomeOf : Session → Call → Outcome
+outcomeOf s (add e ssrc way rollover) = addOutcome (addOf s ssrc way rollover)
+outcomeOf s (protect e buf n) = protectOf s buf n
+outcomeOf s (unprotect e buf n) = unprotectOf s buf n
+
+abbrev pub answerOf : Sessions → Call → Answer
+answerOf s c = outcomeOf (sessionAt (endOf c) s) c .answer
+
+abbrev pub next : Sessions → Call → Sessions
+next s c = withSession (endOf c) s (outcomeOf (sessionAt (endOf c) s) c .session)
+
+-- ---- a list of calls
+
+-- a call and its answer
+pub data Event : Type 0 where
+  event : Call → Answer → Event
+
+abbrev pub eventsOf : Sessions → List Call → List Event
+eventsOf s [] = []
+eventsOf s (c ∷ calls) = event c (answerOf s c) ∷ eventsOf (next s c) calls
+
+abbrev pub after : Sessions → List Call → Sessions
+after s [] = s
+after s (c ∷ calls) = after (next s c) calls
+
+-- every answer, in order, and both sessions afterwards
+pub record Run : Type 0 where
+  pub events : List Event
+  pub sessions : Sessions
+
+abbrev pub run : Sessions → List Call → Run
+run s calls = record { events = eventsOf s calls; sessions = after s calls }
+
+-- ---- about lists
+
+abbrev pub Each : {A : Type 0} → (A → Type 0) → List A → Type 0
+Each P [] = Unit {0}
+Each P (a ∷ l) = P a × Each P l
+
+-- What is handed to protect is bytes. Definitions speak of numbers, so this has to be said; the code's types say it.
+abbrev pub Bytes : Call → Type 0
+Bytes (add e ssrc way rollover) = Unit {0}
+Bytes (protect e buf n) = (i : ℕ) → getD buf i 0 < 256
+Bytes (unprotect e buf n) = Unit {0}

@@ -1,0 +1,36 @@
+-- What holds of every session that making and any list of calls lead to.
+use mathlib.Core.Path.{_≡_}
+use mathlib.Core.Bool.{true, false}
+use mathlib.Core.List.{List, [], _∷_}
+use Prim.Native.Nat.{ℕ, _<_}
+use lib.ListN.{length}
+use Rattle.rtp.specs.Mask.{among}
+use Rattle.srtp.specs.declared.session.Record.{Record}
+use Rattle.srtp.specs.declared.session.Session.{Session}
+use Rattle.srtp.specs.Records.{isFree, hasSsrc}
+use Rattle.srtp.specs.Making.{keysOf, unmade, sessionOf, makeOf}
+use Rattle.theorems.specs.Lists.{End, Call, sessionAt, justMade, outcomeOf, after}
+
+-- no SSRC twice
+abbrev pub Once : List Record → Type 0
+Once [] = Unit {0}
+Once (r ∷ l) = (isFree (r .kind) ≡ false → hasSsrc l (r .ssrc) ≡ false) × Once l
+
+pub record Sound (s : Session) : Type 0 where
+  -- the session keys are those derived from its master key and salt
+  pub keys : s .setup .made ≡ true → s .setup .keys ≡ keysOf (s .setup .key) (s .setup .salt)
+  pub not-made : s .setup .made ≡ false → s ≡ sessionOf unmade
+  -- at most 32 streams
+  pub places : length (s .records) ≡ 32
+  pub once : Once (s .records)
+
+pub record SessionsAreSound : Type 0 where
+  pub made : (key salt : List ℕ) (policy : ℕ) (ids : List ℕ) → Sound (makeOf key salt policy ids .session)
+  pub kept : (s : Session) (c : Call) → Sound s → Sound (outcomeOf s c .session)
+  -- so it holds after every list of calls
+  pub always : (key salt : List ℕ) (policy : ℕ) (ids : List ℕ) (calls : List Call) (e : End) → Sound (sessionAt e (after (justMade key salt policy ids) calls))
+
+-- equal sets of ids give equal sessions: order, repeats and 0 do not matter
+pub record EqualSetsEqualSessions : Type 0 where
+  pub equal : (key salt : List ℕ) (policy : ℕ) (ids others : List ℕ) → ((id : ℕ) → 0 < id → among ids id ≡ among others id)
+      → makeOf key salt policy ids ≡ makeOf key salt policy others

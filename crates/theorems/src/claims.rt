@@ -1,0 +1,54 @@
+// Demand 1 and demand 3.
+ghost use Rattle.theorems.specs.Answers.{OneAnswerEach};
+ghost use Rattle.theorems.specs.Arrivals.{ArrivalsFollowTheLedger};
+ghost use Rattle.theorems.specs.Example.{PremisesAreMet, HollowProgramsDiffer};
+ghost use Rattle.theorems.specs.Places.{NeighboursChangePlaces};
+ghost use Rattle.theorems.specs.Sent.{SentUnderItsIndex};
+ghost use Rattle.theorems.specs.Sums.{SumsHold};
+ghost use Rattle.theorems.specs.Sessions.{SessionsAreSound, EqualSetsEqualSessions};
+
+// Demand 1: a call gives its result or one of its numbers, and a refusal changes nothing.
+pub fn one_answer_each()
+    ensures { λ _. ⌜ OneAnswerEach ⌝ }
+{}
+
+// Every session has the keys of its master key and salt, at most 32 streams, and no SSRC twice.
+pub fn sessions_are_sound()
+    ensures { λ _. ⌜ SessionsAreSound ⌝ }
+{}
+
+// Order, repeats and zeros in the list of ids do not matter.
+pub fn equal_sets_give_equal_sessions()
+    ensures { λ _. ⌜ EqualSetsEqualSessions ⌝ }
+{}
+
+// Demand 2 over lists: what a stream sends are the standards' bytes, under the index that document 01 gives each packet.
+pub fn packets_are_sent_under_their_index()
+    ensures { λ _. ⌜ SentUnderItsIndex ⌝ }
+{}
+
+// Demand 3: each arrival of a stream is given back right, or refused as old or repeated, as the ledger says.
+pub fn arrivals_follow_the_ledger()
+    ensures { λ _. ⌜ ArrivalsFollowTheLedger ⌝ }
+{}
+
+// Demand 3: two neighbouring packet calls for different streams change places.
+pub fn neighbours_change_places()
+    ensures { λ _. ⌜ NeighboursChangePlaces ⌝ }
+{}
+
+// Document 01's sums, G1 to G7, S1, S2 and M1 to M4.
+pub fn sums_hold()
+    ensures { λ _. ⌜ SumsHold ⌝ }
+{}
+
+// A list of calls meets the premises of demand 3.
+pub fn premises_are_met()
+    ensures { λ _. ⌜ PremisesAreMet ⌝ }
+{}
+
+// In it, four hollow programs would answer otherwise: one that refuses everything, one with a fixed answer, one that leaves the buffer, one that is right
+// only for a stream's first packet.
+pub fn hollow_programs_differ()
+    ensures { λ _. ⌜ HollowProgramsDiffer ⌝ }
+{}
