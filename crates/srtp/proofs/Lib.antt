@@ -1,0 +1,5 @@
+pub mod Places
+pub mod Flags
+pub mod Streams
+pub mod Calls
+pub mod Adding

@@ -6,9 +6,9 @@ use Rattle.bits.specs.Refusals.{numberOf}
 use Rattle.bits.specs.declared.refusal.Refusal.{Refusal}
 use Rattle.bits.specs.declared.refusal.Refusal.the-variants as refusal
 use Rattle.packet.specs.declared.policy.Way.{Way}
+use Rattle.srtp.specs.declared.session.Made.{Made}
 use Rattle.srtp.specs.declared.session.Session.{Session}
 use Rattle.srtp.specs.Records.{hasSsrc, isFull, placed, freshRecord}
-use Rattle.srtp.specs.Making.{Made}
 
 abbrev pub notAdded : Session → Refusal → Made
 notAdded s r = record { number = numberOf r; session = s }

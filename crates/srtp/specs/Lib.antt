@@ -2,3 +2,4 @@ pub mod Records
 pub mod Making
 pub mod Adding
 pub mod Packets
+pub mod Steps

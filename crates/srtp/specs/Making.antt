@@ -15,6 +15,7 @@ use Rattle.rtp.specs.Mask.{among}
 use Rattle.packet.specs.declared.keys.Keys.{Keys}
 use Rattle.packet.specs.declared.policy.Policy.{Policy}
 use Rattle.packet.specs.declared.policy.Policy.the-variants.{Plain, Cryptex, CryptexRequired, Mask}
+use Rattle.srtp.specs.declared.session.Made.{Made}
 use Rattle.srtp.specs.declared.session.Setup.{Setup}
 use Rattle.srtp.specs.declared.session.Session.{Session}
 use Rattle.srtp.specs.Records.{freePlace}
@@ -34,7 +35,7 @@ keysOf key salt =
 unfoldable pub idsOf : List ℕ → List Bool
 idsOf ids = tabulate 256 (λ id. not (eqb id 0) && among ids id)
 
--- policies 0 to 3
+-- policies 0 to 3; a higher number is refused (POLICY) before this is asked
 abbrev pub policyOf : ℕ → Policy
 policyOf n = pick (eqb n 0) Plain (pick (eqb n 1) Cryptex (pick (eqb n 2) CryptexRequired Mask))
 
@@ -42,7 +43,7 @@ abbrev pub setupOf : List ℕ → List ℕ → ℕ → List ℕ → Setup
 setupOf key salt policy ids =
     record { made = true; policy = policyOf policy; key = key; salt = salt; ids = idsOf ids; keys = keysOf key salt }
 
--- "one fixed unmade session of policy 0": of what it holds beside that, the papers leave everything free. It is zeros.
+-- "one fixed unmade session of policy 0", which takes no stream. Its key, salt, ids and session keys are left free by the papers: zeros and no id.
 abbrev pub unmadeKeys : Keys
 unmadeKeys =
     record {
@@ -61,10 +62,6 @@ abbrev pub sessionOf : Setup → Session
 sessionOf setup = record { setup = setup; records = replicate 32 freePlace }
 
 -- ---- the call
-
-pub record Made : Type 0 where
-  pub number : ℕ
-  pub session : Session
 
 abbrev pub notMade : Refusal → Made
 notMade r = record { number = numberOf r; session = sessionOf unmade }

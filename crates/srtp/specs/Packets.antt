@@ -1,4 +1,4 @@
--- Document 01, "Numbers given back", 1 to 14: a packet protected and unprotected in its buffer, of which it is told to be the first n bytes.
+-- Document 01, "Numbers given back", 1 to 14: protect and unprotect in a buffer whose first n bytes are the packet.
 use mathlib.Core.Bool.{Bool, false}
 use mathlib.Core.List.{List, _++_}
 use Prim.Native.Nat.{ℕ, _+_, _-_}
@@ -17,40 +17,43 @@ use Rattle.replay.specs.declared.state.ReplayState.{ReplayState}
 use Rattle.replay.specs.Receive.{receiveOf}
 use Rattle.replay.specs.Send.{sendOf}
 use Rattle.replay.specs.Window.{blocks, width}
+use Rattle.packet.specs.declared.keys.Keys.{Keys}
+use Rattle.packet.specs.declared.policy.Policy.{Policy}
 use Rattle.packet.specs.declared.policy.Way.{Way}
 use Rattle.packet.specs.declared.policy.Way.the-variants.{Sending, Receiving}
 use Rattle.packet.specs.Judging.{addedOf, judgedOf}
 use Rattle.packet.specs.Wire.{wireOf, restoreOf, tagFits}
+use Rattle.srtp.specs.declared.session.Done.{Done}
 use Rattle.srtp.specs.declared.session.Setup.{Setup}
 use Rattle.srtp.specs.declared.session.Session.{Session}
 use Rattle.srtp.specs.Records.{Found, none, some, recordFor, storeFor}
 
--- the authentication tag of AES_CM_128_HMAC_SHA1_80: 80 bits
+-- bytes of the authentication tag of AES_CM_128_HMAC_SHA1_80 (80 bits)
 abbrev pub tagLength : ℕ
 tagLength = 10
 
--- What a call does, seen from the record of its stream: a refusal, or a length, the buffer and the record's replay state afterwards.
+-- What a call does to its buffer and its stream's record: a refusal, or a length, and buffer and replay state afterwards.
 pub data Effect : Type 0 where
   refuse : Refusal → Effect
   give : ℕ → List ℕ → ReplayState → Effect
 
--- the ids as a test (the mask's)
+-- whether an id is in the session's set
 abbrev pub listedBy : Setup → ℕ → Bool
 listedBy setup id = getD (setup .ids) id false
 
-module _ (setup : Setup) (buf : List ℕ) (n : ℕ) where
-  -- ---- protect
+-- the protected length
+abbrev pub wireLength : Policy → List ℕ → ℕ → ℕ
+wireLength policy buf n = n + addedOf Sending policy tagLength (layoutOf (take n buf))
 
-  -- the protected length
-  abbrev pub wireLength : ℕ
-  wireLength = n + addedOf Sending (setup .policy) tagLength (layoutOf (take n buf))
+module _ (keys : Keys) (policy : Policy) (listed : ℕ → Bool) (buf : List ℕ) (n : ℕ) where
+  -- ---- protect
 
   -- ORDER and WORN; then the wire bytes, and what follows them in the buffer stays
   abbrev pub protectAt : Judged → ReplayState → Effect
   protectAt (NoIndex r) state = refuse r
   protectAt (Index i) state =
-      give wireLength
-      (wireOf tagLength (setup .keys) (setup .policy) (listedBy setup) (ssrcOf (take n buf)) i (take n buf) ++ drop wireLength buf)
+      give (wireLength policy buf n)
+      (wireOf tagLength keys policy listed (ssrcOf (take n buf)) i (take n buf) ++ drop (wireLength policy buf n) buf)
       state
 
   -- STREAM
@@ -62,13 +65,13 @@ module _ (setup : Setup) (buf : List ℕ) (n : ℕ) where
   -- SHORT to LARGE, then ROOM
   abbrev pub protectRead : Header → Found → Effect
   protectRead (Refused r) found = refuse r
-  protectRead (Read h) found = pick (ltb (length buf) wireLength) (refuse refusal.Room) (protectIn found)
+  protectRead (Read h) found = pick (ltb (length buf) (wireLength policy buf n)) (refuse refusal.Room) (protectIn found)
 
   -- LENGTH
   unfoldable pub protectEffect : Found → Effect
   protectEffect found =
       pick (ltb (length buf) n) (refuse refusal.Length)
-      (protectRead (judgedOf Sending (setup .policy) tagLength (take n buf)) found)
+      (protectRead (judgedOf Sending policy tagLength (take n buf)) found)
 
   -- ---- unprotect
 
@@ -76,9 +79,9 @@ module _ (setup : Setup) (buf : List ℕ) (n : ℕ) where
   abbrev pub unprotectAt : Judged → ReplayState → Effect
   unprotectAt (NoIndex r) state = refuse r
   unprotectAt (Index i) state =
-      pick (tagFits tagLength (setup .keys) i (take n buf))
+      pick (tagFits tagLength keys i (take n buf))
       (give (n - tagLength)
-      (restoreOf tagLength (setup .keys) (setup .policy) (listedBy setup) (ssrcOf (take n buf)) i (take n buf) ++ drop (n - tagLength) buf)
+      (restoreOf tagLength keys policy listed (ssrcOf (take n buf)) i (take n buf) ++ drop (n - tagLength) buf)
       state)
       (refuse refusal.Tag)
 
@@ -98,7 +101,7 @@ module _ (setup : Setup) (buf : List ℕ) (n : ℕ) where
   unfoldable pub unprotectEffect : Found → Effect
   unprotectEffect found =
       pick (ltb (length buf) n) (refuse refusal.Length)
-      (unprotectRead (judgedOf Receiving (setup .policy) tagLength (take n buf)) found)
+      (unprotectRead (judgedOf Receiving policy tagLength (take n buf)) found)
 
 -- ---- the calls
 
@@ -121,12 +124,16 @@ settled s buf ssrc way (give m after state) =
       session = record { setup = s .setup; records = storeFor (s .records) ssrc way state };
     }
 
+-- what the call returns of an outcome
+abbrev pub doneOf : Outcome → Done
+doneOf o = record { number = o .answer .number; length = o .answer .length; session = o .session }
+
 unfoldable pub protectOf : Session → List ℕ → ℕ → Outcome
 protectOf s buf n =
     settled s buf (ssrcOf (take n buf)) Sending
-    (protectEffect (s .setup) buf n (recordFor (s .records) (ssrcOf (take n buf)) Sending))
+    (protectEffect (s .setup .keys) (s .setup .policy) (listedBy (s .setup)) buf n (recordFor (s .records) (ssrcOf (take n buf)) Sending))
 
 unfoldable pub unprotectOf : Session → List ℕ → ℕ → Outcome
 unprotectOf s buf n =
     settled s buf (ssrcOf (take n buf)) Receiving
-    (unprotectEffect (s .setup) buf n (recordFor (s .records) (ssrcOf (take n buf)) Receiving))
+    (unprotectEffect (s .setup .keys) (s .setup .policy) (listedBy (s .setup)) buf n (recordFor (s .records) (ssrcOf (take n buf)) Receiving))

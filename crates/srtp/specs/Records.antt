@@ -19,12 +19,13 @@ abbrev pub kindOf : Way → Kind
 kindOf Sending = Sender
 kindOf Receiving = Receiver
 
-abbrev pub serves : Kind → Way → Bool
-serves Free way = false
-serves Sender Sending = true
-serves Sender Receiving = false
-serves Receiver Sending = false
-serves Receiver Receiving = true
+-- the record is for this way
+abbrev pub hasWay : Kind → Way → Bool
+hasWay Free way = false
+hasWay Sender Sending = true
+hasWay Sender Receiving = false
+hasWay Receiver Sending = false
+hasWay Receiver Receiving = true
 
 abbrev pub isFree : Kind → Bool
 isFree Free = true
@@ -33,12 +34,13 @@ isFree Receiver = false
 
 -- the record is for this SSRC and this way
 abbrev pub isFor : Record → ℕ → Way → Bool
-isFor r ssrc way = eqb (r .ssrc) ssrc && serves (r .kind) way
+isFor r ssrc way = eqb (r .ssrc) ssrc && hasWay (r .kind) way
 
 -- a stream that has had no packet
 abbrev pub freshRecord : ℕ → Way → ℕ → Record
 freshRecord ssrc way rollover = record { ssrc = ssrc; kind = kindOf way; rollover = rollover; replay = freshOf blocks }
 
+-- a place that holds no record
 abbrev pub freePlace : Record
 freePlace = record { ssrc = 0; kind = Free; rollover = 0; replay = freshOf blocks }
 
@@ -71,7 +73,7 @@ abbrev pub isFull : List Record → Bool
 isFull [] = true
 isFull (r ∷ l) = not (isFree (r .kind)) && isFull l
 
--- The records with one more. Its place is left free by the papers: it is the first that is free.
+-- The records with one more. The papers do not say in which place: it is the first that holds none.
 abbrev pub placed : List Record → Record → List Record
 placed [] new = []
 placed (r ∷ l) new = pick (isFree (r .kind)) (new ∷ l) (r ∷ placed l new)

@@ -18,7 +18,7 @@ pub struct Record {
     pub replay: ReplayState,
 }
 
-// Master key, master salt, policy and ids, and the session keys derived from them. No call changes it.
+// Whether it was made, master key, master salt, policy and ids, and the session keys derived from them. No call changes it.
 pub struct Setup {
     pub made: bool,
     pub policy: Policy,
@@ -31,4 +31,17 @@ pub struct Setup {
 pub struct Session {
     pub setup: Setup,
     pub records: [Record; 32],
+}
+
+// What make and add give back: 0 or the number of a refusal, and the session.
+pub struct Made {
+    pub number: u8,
+    pub session: Session,
+}
+
+// What protect and unprotect give back: 0 or the number of a refusal, the packet's new length (0 with a refusal), and the session.
+pub struct Done {
+    pub number: u8,
+    pub length: usize,
+    pub session: Session,
 }

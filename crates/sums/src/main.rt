@@ -1,5 +1,6 @@
-// Document 01's sums of the packet index, run through the proved code: the file `stdout` beside src/ has what document 01 says.
+// Document 01's sums run through the proved code: the file `stdout` beside src/ has what document 01 says.
 // Follows document 01, "Sums on the bench".
+mod limits;
 mod print;
 
 use replay::receive::receive;
@@ -37,4 +38,5 @@ fn main() {
     sent(b"S2 last sent 65535, SEQ 0: ", 0, 65535, 0);
     received(b"highest 100, SEQ 37: ", 0, 100, 37);
     received(b"highest 100, SEQ 36: ", 0, 100, 36);
+    limits::run();
 }

@@ -1,4 +1,4 @@
--- Demand 1: one answer, and a refusal changes nothing.
+-- Demand 1: one answer, and a refusal changes noneSent.
 use mathlib.Core.Path.{_≡_, refl}
 use mathlib.Core.Bool.{Bool, true, false, not, _&&_}
 use mathlib.Core.List.{List, [], _∷_}
@@ -10,7 +10,12 @@ use Rattle.bits.specs.Refusals.{numberOf}
 use Rattle.bits.specs.declared.refusal.Refusal.{Refusal}
 use Rattle.bits.specs.declared.refusal.Refusal.the-variants.{Length, Short, Version, Header as NoHeader, Profile, Element, Large, Room, Stream, Order, Worn, Old, Repeat, Tag, Keys, Policy as NoPolicy, Twice, Full, Absent}
 use Rattle.rtp.specs.Mask.{among}
-use Rattle.rtp.specs.Header.{ssrcOf}
+use Rattle.rtp.specs.declared.element.Found.{Found as Located}
+use Rattle.rtp.specs.declared.element.Found.the-variants.{At, Absent as NotThere, Past}
+use Rattle.rtp.specs.declared.header.Header.{Header}
+use Rattle.rtp.specs.declared.header.Header.the-variants.{Read, Refused}
+use Rattle.rtp.specs.Finding.{locatedOf, Part, partOf, foundIn, findOf}
+use Rattle.rtp.specs.Header.{blockOf, headerOf, ssrcOf}
 use Rattle.packet.specs.declared.policy.Way.{Way}
 use Rattle.packet.specs.declared.policy.Way.the-variants.{Sending, Receiving}
 use Rattle.srtp.specs.declared.session.Setup.{Setup}
@@ -18,11 +23,11 @@ use Rattle.srtp.specs.declared.session.Session.{Session}
 use Rattle.srtp.specs.Records.{Found, hasSsrc, isFull}
 use Rattle.srtp.specs.Making.{unmade, sessionOf, makeOf}
 use Rattle.srtp.specs.Adding.{addOf}
-use Rattle.srtp.specs.Packets.{Effect, refuse, give, protectEffect, unprotectEffect, settled, protectOf, unprotectOf}
+use Rattle.srtp.specs.Packets.{listedBy, Effect, refuse, give, protectEffect, unprotectEffect, settled, protectOf, unprotectOf}
 use Rattle.theorems.specs.Answers.{numbersFor, Settled, OneAnswerEach}
 use Rattle.theorems.specs.Lists.{End, Call, add, protect, unprotect, addOutcome, outcomeOf}
 use Rattle.theorems.proofs.Records.{addBy}
-use Rattle.theorems.proofs.Refusing.{Refuses, Timing, early, later, LateToProtect, LateToUnprotect, protect-timing, unprotect-timing}
+use Rattle.theorems.proofs.Refusing.{HeaderBetween, two-to-four, Refuses, Timing, early, later, LateToProtect, LateToUnprotect, protect-timing, unprotect-timing}
 use Rattle.theorems.proofs.Holding.{protectDone, unprotectDone}
 use Rattle.theorems.proofs.Sending.{madeBy}
 
@@ -82,14 +87,14 @@ module _ (e : End) (buf : List ℕ) (n : ℕ) where
   weaker P Q f (give m b t) p = tt
 
   module _ (h : Setup) (found : Found) where
-    protect-number : Timing LateToProtect (protectEffect h buf n) → Refuses ToProtect (protectEffect h buf n found)
+    protect-number : Timing LateToProtect (protectEffect (h .keys) (h .policy) (listedBy h) buf n) → Refuses ToProtect (protectEffect (h .keys) (h .policy) (listedBy h) buf n found)
     protect-number (early f l) = rw (f .refuses found) (to-protect (f .reason) (omega arith))
-    protect-number (later f) = weaker LateToProtect ToProtect (λ r p. to-protect r (p .1)) (protectEffect h buf n found) (f found)
+    protect-number (later f) = weaker LateToProtect ToProtect (λ r p. to-protect r (p .1)) (protectEffect (h .keys) (h .policy) (listedBy h) buf n found) (f found)
 
-    unprotect-number : Timing LateToUnprotect (unprotectEffect h buf n) → Refuses ToUnprotect (unprotectEffect h buf n found)
+    unprotect-number : Timing LateToUnprotect (unprotectEffect (h .keys) (h .policy) (listedBy h) buf n) → Refuses ToUnprotect (unprotectEffect (h .keys) (h .policy) (listedBy h) buf n found)
     unprotect-number (early f l) = rw (f .refuses found) (to-unprotect (f .reason) (omega arith) (λ z. omega arith) (λ z. omega arith))
     unprotect-number (later f) =
-        weaker LateToUnprotect ToUnprotect (λ r p. to-unprotect r (p .high) (λ z. omega (arith, p .low)) (p .not-ten)) (unprotectEffect h buf n found) (f found)
+        weaker LateToUnprotect ToUnprotect (λ r p. to-unprotect r (p .high) (λ z. omega (arith, p .low)) (p .not-ten)) (unprotectEffect (h .keys) (h .policy) (listedBy h) buf n found) (f found)
 
   protect-settled : (s : Session) (d : Effect) → Refuses ToProtect d → Settled s (protect e buf n) (settled s buf (ssrcOf (take n buf)) Sending d)
   protect-settled s (refuse r) p = record { number = p; length = λ z. refl; buffer = λ z. refl; session = λ z. refl }
@@ -114,6 +119,46 @@ answered s (add e x w rollover) = add-settled s e x w rollover (s .setup .made) 
 answered s (protect e buf n) = protect-settled e buf n s (protectDone s buf n) (protect-number e buf n (s .setup) _ (protect-timing (s .setup) buf n))
 answered s (unprotect e buf n) = unprotect-settled e buf n s (unprotectDone s buf n) (unprotect-number e buf n (s .setup) _ (unprotect-timing (s .setup) buf n))
 
+-- ---- find
+
+to-find : (r : Refusal) → (2 ≤ numberOf r) × (numberOf r ≤ 4) → among (0 ∷ 2 ∷ 3 ∷ 4 ∷ 6 ∷ 19 ∷ []) (numberOf r) ≡ true
+to-find Length h = absurd (omega (arith, h .0))
+to-find Short h = refl
+to-find Version h = refl
+to-find NoHeader h = refl
+to-find Profile h = absurd (omega (arith, h .1))
+to-find Element h = refl
+to-find Large h = absurd (omega (arith, h .1))
+to-find Room h = absurd (omega (arith, h .1))
+to-find Stream h = absurd (omega (arith, h .1))
+to-find Order h = absurd (omega (arith, h .1))
+to-find Worn h = absurd (omega (arith, h .1))
+to-find Old h = absurd (omega (arith, h .1))
+to-find Repeat h = absurd (omega (arith, h .1))
+to-find Tag h = absurd (omega (arith, h .1))
+to-find Keys h = absurd (omega (arith, h .1))
+to-find NoPolicy h = absurd (omega (arith, h .1))
+to-find Twice h = absurd (omega (arith, h .1))
+to-find Full h = absurd (omega (arith, h .1))
+to-find Absent h = refl
+
+record Finds (p : Part) : Type 0 where
+  number : among (0 ∷ 2 ∷ 3 ∷ 4 ∷ 6 ∷ 19 ∷ []) (p .number) ≡ true
+  none : (p .number ≡ 0 → ⊥) → p .length ≡ 0
+
+part-finds : (block : ℕ) (f : Located) → Finds (partOf block f)
+part-finds block (At e) = record { number = refl; none = λ z. absurd (z refl) }
+part-finds block NotThere = record { number = refl; none = λ z. refl }
+part-finds block Past = record { number = refl; none = λ z. refl }
+
+in-finds : (p : List ℕ) (id : ℕ) (h : Header) → HeaderBetween 2 4 h → Finds (foundIn p id h)
+in-finds p id (Refused r) e = record { number = to-find r e; none = λ z. refl }
+in-finds p id (Read h) e = part-finds (h .block) (locatedOf (h .tag) (blockOf h p) id)
+
+finds : (p : List ℕ) (id : ℕ) → Finds (findOf p id)
+unfolding findOf
+finds p id = in-finds p id (headerOf p 0) (two-to-four p 0)
+
 -- ---- make
 
 made-number : (key salt : List ℕ) (policy : ℕ) (ids : List ℕ) (a b : Bool) → among (0 ∷ 15 ∷ 16 ∷ []) (madeBy key salt policy ids a b .number) ≡ true
@@ -132,6 +177,8 @@ unfolding makeOf addOf
 one-answer-each =
     record {
       calls = answered;
+      find-number = λ p id. finds p id .number;
+      find-refused = λ p id. finds p id .none;
       number = λ key salt policy ids. made-number key salt policy ids (not (eqb (length key) 16 && eqb (length salt) 14)) (ltb 3 policy);
       refused = λ key salt policy ids. made-refused key salt policy ids (not (eqb (length key) 16 && eqb (length salt) 14)) (ltb 3 policy);
       no-stream = λ s e ssrc way rollover. rw e;

@@ -24,7 +24,6 @@ use Rattle.replay.specs.Ledger.{highestOf, holds, given, refused, enter, Near}
 use Rattle.replay.specs.Receive.{receiveOf}
 use Rattle.replay.specs.State.{afterOf}
 use Rattle.replay.specs.Window.{blocks, width}
-use Rattle.replay.proofs.Indices.{receiving}
 use Rattle.replay.proofs.Ledger.{Remembers, fresh-remembers, Agrees, received-by-ledger, near-right}
 use Rattle.packet.specs.declared.policy.Policy.{Policy}
 use Rattle.packet.specs.declared.policy.Way.the-variants.{Sending, Receiving}
@@ -127,13 +126,13 @@ module _ (h : Setup) (x : ℕ) (s : Sent) (g : Good h x s) (buf : List ℕ) (n :
   restored = rw (same-ssrc, begins) (back .restored)
 
   at-index : (j : Judged) (t : ReplayState) → ((i : ℕ) → j ≡ Index i → i ≡ s .index)
-      → unprotectAt h buf n j t ≡ verdict j t (n - tagLength) (shown ++ drop (n - tagLength) buf)
+      → unprotectAt (h .keys) (h .policy) (listedBy h) buf n j t ≡ verdict j t (n - tagLength) (shown ++ drop (n - tagLength) buf)
   at-index (NoIndex r) t e = refl
   at-index (Index i) t e = rw (e i refl, fits, restored)
 
   pub unprotected : (r : Record) (o : Received) → receiveOf blocks width (r .replay) (r .rollover) (lowOf (s .index)) ≡ o
       → ((i : ℕ) → o .judged ≡ Index i → i ≡ s .index)
-      → unprotectEffect h buf n (some r) ≡ verdict (o .judged) (o .state) (n - tagLength) (shown ++ drop (n - tagLength) buf)
+      → unprotectEffect (h .keys) (h .policy) (listedBy h) buf n (some r) ≡ verdict (o .judged) (o .state) (n - tagLength) (shown ++ drop (n - tagLength) buf)
   unfolding unprotectEffect
   unprotected r o e f = rw (le-ltb (length buf) n inside, read, same-seq, e) (at-index (o .judged) (o .state) f)
 
@@ -220,7 +219,7 @@ module _ (h : Setup) (x rollover : ℕ) (large : rollover < 2 ^ 32) (sent : List
 
         effect-is : unprotectDone s buf n ≡ verdict (got .judged) (got .state) (n - tagLength) (givenBackOf (h .policy) (pkt .packet) ++ drop (n - tagLength) buf)
         effect-is =
-            let own : unprotectDone s buf n ≡ unprotectEffect h buf n (some (o .rec)) = rw (same-ssrc h x pkt good buf n size starts, o .holds .setup, o .holds .found) in
+            let own : unprotectDone s buf n ≡ unprotectEffect (h .keys) (h .policy) (listedBy h) buf n (some (o .rec)) = rw (same-ssrc h x pkt good buf n size starts, o .holds .setup, o .holds .found) in
             own ∙ unprotected h x pkt good buf n size starts (o .rec) got refl same-index
 
         record Settles (d : Effect) : Type 0 where
@@ -273,30 +272,30 @@ module _ (h : Setup) (x rollover : ℕ) (large : rollover < 2 ^ 32) (sent : List
     by-mark unmarked d f p = by-other (eqb (ssrcOf (take n buf)) x) d refl p
     by-mark (carries k) d f p = by-arrival k d f p
 
-  all-follow : (cs : List Call) (marks : ℕ → Mark) (s : Sessions) (held : List ℕ) → Follows held (s .receiving)
+  all-follow : (cs : List Call) (marks : ℕ → Mark) (s : Sessions) (held : List ℕ) → Follows held (s .atReceiver)
       → Ahead held (arrivalsOf marks (eventsOf s cs)) (othersOf x marks (eventsOf s cs)) → AsTheLedger (h .policy) sent held (arrivalsOf marks (eventsOf s cs))
   unfolding protectOf unprotectOf
   all-follow [] marks s held o p = tt
   all-follow (add sender y v r ∷ cs) marks s held o p = all-follow cs (λ k. marks (suc k)) _ held o p
   all-follow (add receiver y v r ∷ cs) marks s held o p =
       all-follow cs (λ k. marks (suc k)) _ held
-      (record { rec = o .rec; holds = holds-add h x Receiving (o .rec) (s .receiving) y v r (o .holds); start = o .start; remembers = o .remembers }) p
+      (record { rec = o .rec; holds = holds-add h x Receiving (o .rec) (s .atReceiver) y v r (o .holds); start = o .start; remembers = o .remembers }) p
   all-follow (protect sender buf n ∷ cs) marks s held o p = all-follow cs (λ k. marks (suc k)) _ held o p
   all-follow (protect receiver buf n ∷ cs) marks s held o p =
       all-follow cs (λ k. marks (suc k)) _ held
       (record {
         rec = o .rec;
-        holds = holds-settled h x Receiving (o .rec) (s .receiving) buf (ssrcOf (take n buf)) Sending (protectDone (s .receiving) buf n) (λ w y. ways-differ w) (o .holds);
+        holds = holds-settled h x Receiving (o .rec) (s .atReceiver) buf (ssrcOf (take n buf)) Sending (protectDone (s .atReceiver) buf n) (λ w y. ways-differ w) (o .holds);
         start = o .start;
         remembers = o .remembers;
       }) p
   all-follow (unprotect sender buf n ∷ cs) marks s held o p = all-follow cs (λ k. marks (suc k)) _ held o p
   all-follow (unprotect receiver buf n ∷ cs) marks s held o p =
-      by-mark (s .receiving) buf n held o
-      (λ t. arrivalsOf (λ k. marks (suc k)) (eventsOf (record { sending = s .sending; receiving = t }) cs))
-      (λ t. othersOf x (λ k. marks (suc k)) (eventsOf (record { sending = s .sending; receiving = t }) cs))
-      (λ l t f q. all-follow cs (λ k. marks (suc k)) (record { sending = s .sending; receiving = t }) l f q)
-      (marks 0) (unprotectDone (s .receiving) buf n) refl p
+      by-mark (s .atReceiver) buf n held o
+      (λ t. arrivalsOf (λ k. marks (suc k)) (eventsOf (record { atSender = s .atSender; atReceiver = t }) cs))
+      (λ t. othersOf x (λ k. marks (suc k)) (eventsOf (record { atSender = s .atSender; atReceiver = t }) cs))
+      (λ l t f q. all-follow cs (λ k. marks (suc k)) (record { atSender = s .atSender; atReceiver = t }) l f q)
+      (marks 0) (unprotectDone (s .atReceiver) buf n) refl p
 
   -- from the add on
   from-add : (rest : List Event) → Behind h receiver x Receiving rollover rest → (marks : ℕ → Mark) → Premises x rollover sent marks rest

@@ -12,10 +12,10 @@ use Rattle.packet.specs.declared.policy.Way.{Way}
 use Rattle.srtp.specs.declared.session.Setup.{Setup}
 use Rattle.srtp.specs.declared.session.Session.{Session}
 use Rattle.srtp.specs.Records.{Found, recordFor}
-use Rattle.srtp.specs.Packets.{Effect, refuse, give, protectEffect, unprotectEffect, Answer, Outcome, settled, protectOf, unprotectOf}
+use Rattle.srtp.specs.Packets.{listedBy, Effect, refuse, give, protectEffect, unprotectEffect, Answer, Outcome, settled, protectOf, unprotectOf}
 use Rattle.theorems.specs.Answers.{bufferOf}
 use Rattle.theorems.specs.Lists.{End, sender, receiver, Call, add, protect, unprotect, endOf, Sessions, sessionAt, withSession, outcomeOf, answerOf, next, Event, event, after, eventsOf}
-use Rattle.theorems.specs.Places.{IsPacketCall, ssrcIn, wayIn, Unread, Apart, exchanged, NeighboursChangePlaces}
+use Rattle.theorems.specs.Places.{IsPacketCall, ssrcIn, wayIn, LengthOrShort, DifferentStreams, exchanged, NeighboursChangePlaces}
 use Rattle.theorems.proofs.Refusing.{Refuses, Early, Timing, early, later, LateToProtect, LateToUnprotect, protect-timing, unprotect-timing}
 use Rattle.theorems.proofs.Settling.{setup-settled, answer-settled, found-settled, settled-commute}
 use Rattle.theorems.proofs.Holding.{setup-next}
@@ -24,8 +24,8 @@ use Rattle.theorems.proofs.Holding.{setup-next}
 
 abbrev pub effectIn : Setup → Call → Found → Effect
 effectIn h (add e x w r) found = refuse refusal.Keys
-effectIn h (protect e buf n) found = protectEffect h buf n found
-effectIn h (unprotect e buf n) found = unprotectEffect h buf n found
+effectIn h (protect e buf n) found = protectEffect (h .keys) (h .policy) (listedBy h) buf n found
+effectIn h (unprotect e buf n) found = unprotectEffect (h .keys) (h .policy) (listedBy h) buf n found
 
 abbrev pub effectOf : Session → Call → Effect
 effectOf s c = effectIn (s .setup) c (recordFor (s .records) (ssrcIn c) (wayIn c))
@@ -66,17 +66,17 @@ sessions-commute s c d kc kd differ =
 with-commute : (e f : End) (s : Sessions) (F G : Session → Session) → (e ≡ f → (t : Session) → G (F t) ≡ F (G t))
     → withSession f (withSession e s (F (sessionAt e s))) (G (sessionAt f (withSession e s (F (sessionAt e s)))))
     ≡ withSession e (withSession f s (G (sessionAt f s))) (F (sessionAt e (withSession f s (G (sessionAt f s)))))
-with-commute sender sender s F G h = ap (λ (t : Session). record { sending = t; receiving = s .receiving }) (h refl (s .sending))
+with-commute sender sender s F G h = ap (λ (t : Session). record { atSender = t; atReceiver = s .atReceiver }) (h refl (s .atSender))
 with-commute sender receiver s F G h = refl
 with-commute receiver sender s F G h = refl
-with-commute receiver receiver s F G h = ap (λ (t : Session). record { sending = s .sending; receiving = t }) (h refl (s .receiving))
+with-commute receiver receiver s F G h = ap (λ (t : Session). record { atSender = s .atSender; atReceiver = t }) (h refl (s .atReceiver))
 
 with-answer : (e f : End) (s : Sessions) (F : Session → Session) (H : Session → Answer) → (e ≡ f → (t : Session) → H (F t) ≡ H t)
     → H (sessionAt f (withSession e s (F (sessionAt e s)))) ≡ H (sessionAt f s)
-with-answer sender sender s F H h = h refl (s .sending)
+with-answer sender sender s F H h = h refl (s .atSender)
 with-answer sender receiver s F H h = refl
 with-answer receiver sender s F H h = refl
-with-answer receiver receiver s F H h = h refl (s .receiving)
+with-answer receiver receiver s F H h = h refl (s .atReceiver)
 
 with-own : (e : End) (s : Sessions) → withSession e s (sessionAt e s) ≡ s
 with-own sender s = refl
@@ -98,7 +98,7 @@ apart-commute s c d kc kd differ =
 -- ---- refused with LENGTH or SHORT
 
 -- a refusal that looks at the record, or a result, has another number
-late-read : (s : Session) (buf : List ℕ) (x : ℕ) (w : Way) (d : Effect) → Refuses (λ r. 8 ≤ numberOf r) d → Unread (settled s buf x w d .answer) → ⊥
+late-read : (s : Session) (buf : List ℕ) (x : ℕ) (w : Way) (d : Effect) → Refuses (λ r. 8 ≤ numberOf r) d → LengthOrShort (settled s buf x w d .answer) → ⊥
 late-read s buf x w (refuse r) l a = ⊎-elim (λ z. omega arith) (λ z. omega arith) a
 late-read s buf x w (give m b t) l a = ⊎-elim (λ z. omega arith) (λ z. omega arith) a
 
@@ -110,16 +110,16 @@ early-or-late : (h : Setup) (c : Call) → IsPacketCall c → Early (effectIn h 
 early-or-late h (add e x w r) k = absurd k
 early-or-late h (protect e buf n) k = go (protect-timing h buf n)
   where
-    go : Timing LateToProtect (protectEffect h buf n) → Early (protectEffect h buf n) ⊎ ((found : Found) → Refuses (λ r. 8 ≤ numberOf r) (protectEffect h buf n found))
+    go : Timing LateToProtect (protectEffect (h .keys) (h .policy) (listedBy h) buf n) → Early (protectEffect (h .keys) (h .policy) (listedBy h) buf n) ⊎ ((found : Found) → Refuses (λ r. 8 ≤ numberOf r) (protectEffect (h .keys) (h .policy) (listedBy h) buf n found))
     go (early e l) = inl e
-    go (later l) = inr (λ found. weaker LateToProtect (λ r. 8 ≤ numberOf r) (λ r p. p .0) (protectEffect h buf n found) (l found))
+    go (later l) = inr (λ found. weaker LateToProtect (λ r. 8 ≤ numberOf r) (λ r p. p .0) (protectEffect (h .keys) (h .policy) (listedBy h) buf n found) (l found))
 early-or-late h (unprotect e buf n) k = go (unprotect-timing h buf n)
   where
-    go : Timing LateToUnprotect (unprotectEffect h buf n) → Early (unprotectEffect h buf n) ⊎ ((found : Found) → Refuses (λ r. 8 ≤ numberOf r) (unprotectEffect h buf n found))
+    go : Timing LateToUnprotect (unprotectEffect (h .keys) (h .policy) (listedBy h) buf n) → Early (unprotectEffect (h .keys) (h .policy) (listedBy h) buf n) ⊎ ((found : Found) → Refuses (λ r. 8 ≤ numberOf r) (unprotectEffect (h .keys) (h .policy) (listedBy h) buf n found))
     go (early e l) = inl e
-    go (later l) = inr (λ found. weaker LateToUnprotect (λ r. 8 ≤ numberOf r) (λ r p. omega (arith, p .low)) (unprotectEffect h buf n found) (l found))
+    go (later l) = inr (λ found. weaker LateToUnprotect (λ r. 8 ≤ numberOf r) (λ r p. omega (arith, p .low)) (unprotectEffect (h .keys) (h .policy) (listedBy h) buf n found) (l found))
 
-unread-early : (s : Session) (c : Call) → IsPacketCall c → Unread (outcomeOf s c .answer) → Early (effectIn (s .setup) c)
+unread-early : (s : Session) (c : Call) → IsPacketCall c → LengthOrShort (outcomeOf s c .answer) → Early (effectIn (s .setup) c)
 unread-early s c k a =
     ⊎-elim (λ e. e)
     (λ l. absurd (late-read s (bufferOf c) (ssrcIn c) (wayIn c) (effectOf s c) (l _) (rw (packet-call s c k) at a)))
@@ -155,10 +155,10 @@ flipped : (s : Sessions) (c d : Call) → Commute s d c → Commute s c d
 flipped s c d o = record { sessions = sym (o .sessions); left = o .right; right = o .left }
 
 -- d is refused after c, so it is refused before
-second-early : (s : Sessions) (c d : Call) → IsPacketCall d → Unread (answerOf (next s c) d) → Early (effectIn (sessionAt (endOf d) s .setup) d)
+second-early : (s : Sessions) (c d : Call) → IsPacketCall d → LengthOrShort (answerOf (next s c) d) → Early (effectIn (sessionAt (endOf d) s .setup) d)
 second-early s c d k a = rw (setup-next (endOf d) s c) at (unread-early (sessionAt (endOf d) (next s c)) d k a)
 
-commute : (s : Sessions) (c d : Call) → IsPacketCall c → IsPacketCall d → Apart s c d → Commute s c d
+commute : (s : Sessions) (c d : Call) → IsPacketCall c → IsPacketCall d → DifferentStreams s c d → Commute s c d
 commute s c d kc kd a =
     ⊎-elim (λ f. apart-commute s c d kc kd f)
     (λ b. ⊎-elim

@@ -1,4 +1,4 @@
--- A stream's record through calls that are not its own; where an add leaves it; and nothing is sent before the add.
+-- A stream's record through calls that are not its own; where an add leaves it; and noneSent is sent before the add.
 use mathlib.Core.Path.{_≡_, refl, ap, _∙_, sym}
 use mathlib.Core.Bool.{Bool, true, false}
 use mathlib.Core.List.{List, [], _∷_}
@@ -16,7 +16,7 @@ use Rattle.srtp.specs.declared.session.Setup.{Setup}
 use Rattle.srtp.specs.declared.session.Session.{Session}
 use Rattle.srtp.specs.Records.{none, some, recordFor, hasSsrc, freshRecord}
 use Rattle.srtp.specs.Adding.{addOf}
-use Rattle.srtp.specs.Packets.{Effect, refuse, give, protectEffect, unprotectEffect, settled, protectOf, unprotectOf}
+use Rattle.srtp.specs.Packets.{listedBy, Effect, refuse, give, protectEffect, unprotectEffect, settled, protectOf, unprotectOf}
 use Rattle.theorems.specs.Lists.{End, sender, receiver, Call, add, protect, unprotect, endOf, Sessions, sessionAt, withSession, outcomeOf, answerOf, next, Event, event, eventsOf, Each, Bytes}
 use Rattle.theorems.specs.Sent.{Last, sentFrom, added, noEvent}
 use Rattle.theorems.proofs.Records.{none-found, stored-ssrc, add-found, add-setup, add-new, add-made, add-absent, add-keeps}
@@ -25,10 +25,10 @@ use Rattle.theorems.proofs.Settling.{setup-settled, found-settled, none
 
 -- what a packet call does, in its session
 abbrev pub protectDone : Session → List ℕ → ℕ → Effect
-protectDone s buf n = protectEffect (s .setup) buf n (recordFor (s .records) (ssrcOf (take n buf)) Sending)
+protectDone s buf n = protectEffect (s .setup .keys) (s .setup .policy) (listedBy (s .setup)) buf n (recordFor (s .records) (ssrcOf (take n buf)) Sending)
 
 abbrev pub unprotectDone : Session → List ℕ → ℕ → Effect
-unprotectDone s buf n = unprotectEffect (s .setup) buf n (recordFor (s .records) (ssrcOf (take n buf)) Receiving)
+unprotectDone s buf n = unprotectEffect (s .setup .keys) (s .setup .policy) (listedBy (s .setup)) buf n (recordFor (s .records) (ssrcOf (take n buf)) Receiving)
 
 -- ---- a session with a record for a stream
 
@@ -48,7 +48,7 @@ holds-settled h x w r s buf y v d differ o =
 
 -- ---- no call changes a setup
 
-setup-outcome : (s : Session) (c : Call) → outcomeOf s c .session .setup ≡ s .setup
+pub setup-outcome : (s : Session) (c : Call) → outcomeOf s c .session .setup ≡ s .setup
 unfolding protectOf unprotectOf
 setup-outcome s (add e x w rollover) = add-setup s x w rollover
 setup-outcome s (protect e buf n) = setup-settled s buf (ssrcOf (take n buf)) Sending (protectDone s buf n)
@@ -111,7 +111,7 @@ module _ (h : Setup) (e : End) (x : ℕ) (w : Way) (rollover : ℕ) where
       }
   behind-add (c ∷ cs) b s (suc i) k q = behind-add cs (b .1) (next s c) i (setup-next e s c ∙ k) q
 
--- ---- nothing of a stream is sent before its add
+-- ---- noneSent of a stream is sent before its add
 
 module _ (x rollover : ℕ) where
   absent-settled : (s : Session) (buf : List ℕ) (y : ℕ) (w : Way) (d : Effect) → hasSsrc (settled s buf y w d .session .records) x ≡ false
@@ -119,24 +119,24 @@ module _ (x rollover : ℕ) where
   absent-settled s buf y w (refuse r) e = e
   absent-settled s buf y w (give m b t) e = sym (stored-ssrc x y w t (s .records)) ∙ e
 
-  absent-next : (s : Sessions) (c : Call) → hasSsrc (next s c .sending .records) x ≡ false → hasSsrc (s .sending .records) x ≡ false
+  absent-next : (s : Sessions) (c : Call) → hasSsrc (next s c .atSender .records) x ≡ false → hasSsrc (s .atSender .records) x ≡ false
   unfolding protectOf unprotectOf
-  absent-next s (add sender y w r) e = add-absent (s .sending) y w r x e
+  absent-next s (add sender y w r) e = add-absent (s .atSender) y w r x e
   absent-next s (add receiver y w r) e = e
-  absent-next s (protect sender buf n) e = absent-settled (s .sending) buf (ssrcOf (take n buf)) Sending (protectDone (s .sending) buf n) e
+  absent-next s (protect sender buf n) e = absent-settled (s .atSender) buf (ssrcOf (take n buf)) Sending (protectDone (s .atSender) buf n) e
   absent-next s (protect receiver buf n) e = e
-  absent-next s (unprotect sender buf n) e = absent-settled (s .sending) buf (ssrcOf (take n buf)) Receiving (unprotectDone (s .sending) buf n) e
+  absent-next s (unprotect sender buf n) e = absent-settled (s .atSender) buf (ssrcOf (take n buf)) Receiving (unprotectDone (s .atSender) buf n) e
   absent-next s (unprotect receiver buf n) e = e
 
-  absent-here : (s : Sessions) (c : Call) → c ≡ add sender x Sending rollover → answerOf s c .number ≡ 0 → hasSsrc (s .sending .records) x ≡ false
-  absent-here s c q a = add-new (s .sending) x Sending rollover (rw q at a)
+  absent-here : (s : Sessions) (c : Call) → c ≡ add sender x Sending rollover → answerOf s c .number ≡ 0 → hasSsrc (s .atSender .records) x ≡ false
+  absent-here s c q a = add-new (s .atSender) x Sending rollover (rw q at a)
 
-  absent : (cs : List Call) (s : Sessions) (i : ℕ) → getD (eventsOf s cs) i noEvent ≡ added sender x Sending rollover → hasSsrc (s .sending .records) x ≡ false
+  absent : (cs : List Call) (s : Sessions) (i : ℕ) → getD (eventsOf s cs) i noEvent ≡ added sender x Sending rollover → hasSsrc (s .atSender .records) x ≡ false
   absent [] s i q = let z : _≡_ {A = ℕ} 15 0 = ap numberIn q in absurd (omega arith)
   absent (c ∷ cs) s zero q = absent-here s c (ap callIn q) (ap numberIn q)
   absent (c ∷ cs) s (suc i) q = absent-next s c (absent cs (next s c) i q)
 
-  -- a call that sends nothing of the stream
+  -- a call that sends noneSent of the stream
   quiet-effect : (s : Session) (buf : List ℕ) (n : ℕ) (last : Last) (es : List Event) (b : Bool) (d : Effect) → hasSsrc (s .records) x ≡ false
       → eqb (ssrcOf (take n buf)) x ≡ b → protectDone s buf n ≡ d
       → sentFrom x rollover last (event (protect sender buf n) (settled s buf (ssrcOf (take n buf)) Sending d .answer) ∷ es) ≡ sentFrom x rollover last es
@@ -144,14 +144,14 @@ module _ (x rollover : ℕ) where
   quiet-effect s buf n last es true (refuse r) a e f = rw (e, ne-eqb (numberOf r) 0 (λ q. omega (arith, above-zero r)))
   quiet-effect s buf n last es true (give m b t) a e f =
       let y : ssrcOf (take n buf) ≡ x = eqb-true (ssrcOf (take n buf)) x e in
-      let own : protectDone s buf n ≡ protectEffect (s .setup) buf n none = rw (y, none-found (s .records) x Sending a) in
+      let own : protectDone s buf n ≡ protectEffect (s .setup .keys) (s .setup .policy) (listedBy (s .setup)) buf n none = rw (y, none-found (s .records) x Sending a) in
       absurd (none-given (s .setup) buf n m b t (sym own ∙ f))
 
-  quiet : (s : Sessions) (c : Call) (last : Last) (es : List Event) → hasSsrc (s .sending .records) x ≡ false
+  quiet : (s : Sessions) (c : Call) (last : Last) (es : List Event) → hasSsrc (s .atSender .records) x ≡ false
       → sentFrom x rollover last (event c (answerOf s c) ∷ es) ≡ sentFrom x rollover last es
   unfolding protectOf
   quiet s (add e y w r) last es a = refl
-  quiet s (protect sender buf n) last es a = quiet-effect (s .sending) buf n last es _ (protectDone (s .sending) buf n) a refl refl
+  quiet s (protect sender buf n) last es a = quiet-effect (s .atSender) buf n last es _ (protectDone (s .atSender) buf n) a refl refl
   quiet s (protect receiver buf n) last es a = refl
   quiet s (unprotect e buf n) last es a = refl
 

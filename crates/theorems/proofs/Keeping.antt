@@ -25,25 +25,25 @@ use Rattle.srtp.specs.declared.session.Session.{Session}
 use Rattle.srtp.specs.Records.{isFree, isFor, freePlace, freshRecord, none, recordFor, withReplay, storeFor, hasSsrc, isFull, placed}
 use Rattle.srtp.specs.Making.{idsOf, unmade, sessionOf, makeOf}
 use Rattle.srtp.specs.Adding.{addOf}
-use Rattle.srtp.specs.Packets.{tagLength, Effect, refuse, give, unprotectRead, unprotectEffect, settled, protectOf, unprotectOf}
+use Rattle.srtp.specs.Packets.{listedBy, tagLength, Effect, refuse, give, unprotectRead, unprotectEffect, settled, protectOf, unprotectOf}
 use Rattle.theorems.specs.Lists.{End, sender, receiver, Call, add, protect, unprotect, Sessions, sessionAt, outcomeOf, next, after, justMade}
-use Rattle.theorems.specs.Sessions.{Once, Sound, SessionsAreSound, EqualSetsEqualSessions}
+use Rattle.theorems.specs.Sessions.{NoSsrcTwice, Sound, SessionsAreSound, EqualSetsEqualSessions}
 use Rattle.theorems.proofs.Records.{clash, or-false, free-for, stored-ssrc, addBy}
 use Rattle.theorems.proofs.Settling.{none-given}
-use Rattle.theorems.proofs.Holding.{protectDone, unprotectDone}
+use Rattle.theorems.proofs.Holding.{protectDone, unprotectDone, setup-outcome}
 use Rattle.theorems.proofs.Sending.{madeBy}
 
 -- ---- no SSRC twice
 
-once-free : (k : ℕ) → Once (replicate k freePlace)
+once-free : (k : ℕ) → NoSsrcTwice (replicate k freePlace)
 once-free zero = tt
 once-free (suc k) = (λ e. clash true refl e, once-free k)
 
-once-stored : (x : ℕ) (w : Way) (t : ReplayState) (l : List Record) → Once l → Once (storeFor l x w t)
+once-stored : (x : ℕ) (w : Way) (t : ReplayState) (l : List Record) → NoSsrcTwice l → NoSsrcTwice (storeFor l x w t)
 once-stored x w t [] o = tt
 once-stored x w t (q ∷ l) o = go (isFor q x w) (once-stored x w t l (o .1))
   where
-    go : (b : Bool) → Once (storeFor l x w t) → Once (pick b (withReplay q t ∷ l) (q ∷ storeFor l x w t))
+    go : (b : Bool) → NoSsrcTwice (storeFor l x w t) → NoSsrcTwice (pick b (withReplay q t ∷ l) (q ∷ storeFor l x w t))
     go true rec = o
     go false rec = (λ e. stored-ssrc (q .ssrc) x w t l ∙ o .0 e, rec)
 
@@ -68,7 +68,7 @@ not-placed y n (q ∷ l) h e = go (isFree (q .kind)) refl (not-placed y n l)
     go true f rec = rw (e, and-no (not (isFree (n .kind)))) rest
     go false f rec = rw (first-no (not (isFree (q .kind)) && eqb (q .ssrc) y) (hasSsrc l y) h) (rec rest e)
 
-once-placed : (n : Record) (l : List Record) → hasSsrc l (n .ssrc) ≡ false → Once l → Once (placed l n)
+once-placed : (n : Record) (l : List Record) → hasSsrc l (n .ssrc) ≡ false → NoSsrcTwice l → NoSsrcTwice (placed l n)
 once-placed n [] h o = tt
 once-placed n (q ∷ l) h o = go (isFree (q .kind)) refl (once-placed n l)
   where
@@ -83,7 +83,7 @@ once-placed n (q ∷ l) h o = go (isFree (q .kind)) refl (once-placed n l)
     turned : eqb (q .ssrc) (n .ssrc) ≡ false → eqb (n .ssrc) (q .ssrc) ≡ false
     turned e = ne-eqb (n .ssrc) (q .ssrc) (λ z. eqb-false (q .ssrc) (n .ssrc) e (sym z))
 
-    go : (b : Bool) → isFree (q .kind) ≡ b → (hasSsrc l (n .ssrc) ≡ false → Once l → Once (placed l n)) → Once (pick b (n ∷ l) (q ∷ placed l n))
+    go : (b : Bool) → isFree (q .kind) ≡ b → (hasSsrc l (n .ssrc) ≡ false → NoSsrcTwice l → NoSsrcTwice (placed l n)) → NoSsrcTwice (pick b (n ∷ l) (q ∷ placed l n))
     go true f rec = (λ e. rest, o .1)
     go false f rec = (λ e. not-placed (q .ssrc) n l (o .0 e) (turned (differs (isFree (q .kind)) (eqb (q .ssrc) (n .ssrc)) e h)), rec rest (o .1))
 
@@ -112,16 +112,16 @@ none-free zero x w = refl
 none-free (suc k) x w = rw (free-for freePlace x w refl) (none-free k x w)
 
 module _ (h : Setup) (buf : List ℕ) (n : ℕ) where
-  none-read : (l : Header) (m : ℕ) (b : List ℕ) (t : ReplayState) → unprotectRead h buf n l none ≡ give m b t → ⊥
+  none-read : (l : Header) (m : ℕ) (b : List ℕ) (t : ReplayState) → unprotectRead (h .keys) (h .policy) (listedBy h) buf n l none ≡ give m b t → ⊥
   none-read (Refused r) m b t g = apart cc
   none-read (Read l) m b t g = apart cc
 
   none-first : (c : Bool) (m : ℕ) (b : List ℕ) (t : ReplayState)
-      → pick c (refuse refusal.Length) (unprotectRead h buf n (judgedOf Receiving (h .policy) tagLength (take n buf)) none) ≡ give m b t → ⊥
+      → pick c (refuse refusal.Length) (unprotectRead (h .keys) (h .policy) (listedBy h) buf n (judgedOf Receiving (h .policy) tagLength (take n buf)) none) ≡ give m b t → ⊥
   none-first true m b t g = apart cc
   none-first false m b t g = none-read (judgedOf Receiving (h .policy) tagLength (take n buf)) m b t g
 
-  none-unprotected : (m : ℕ) (b : List ℕ) (t : ReplayState) → unprotectEffect h buf n none ≡ give m b t → ⊥
+  none-unprotected : (m : ℕ) (b : List ℕ) (t : ReplayState) → unprotectEffect (h .keys) (h .policy) (listedBy h) buf n none ≡ give m b t → ⊥
   unfolding unprotectEffect
   none-unprotected m b t g = none-first (ltb (length buf) n) m b t g
 
@@ -188,45 +188,46 @@ kept s (unprotect e buf n) o = settled-sound s buf (ssrcOf (take n buf)) Receivi
 -- ---- and every list
 
 record BothSound (s : Sessions) : Type 0 where
-  sending : Sound (s .sending)
-  receiving : Sound (s .receiving)
+  atSender : Sound (s .atSender)
+  atReceiver : Sound (s .atReceiver)
 
 next-sound : (s : Sessions) (c : Call) → BothSound s → BothSound (next s c)
-next-sound s (add sender x w r) o = record { sending = kept (s .sending) (add sender x w r) (o .sending); receiving = o .receiving }
-next-sound s (add receiver x w r) o = record { sending = o .sending; receiving = kept (s .receiving) (add receiver x w r) (o .receiving) }
-next-sound s (protect sender buf n) o = record { sending = kept (s .sending) (protect sender buf n) (o .sending); receiving = o .receiving }
-next-sound s (protect receiver buf n) o = record { sending = o .sending; receiving = kept (s .receiving) (protect receiver buf n) (o .receiving) }
-next-sound s (unprotect sender buf n) o = record { sending = kept (s .sending) (unprotect sender buf n) (o .sending); receiving = o .receiving }
-next-sound s (unprotect receiver buf n) o = record { sending = o .sending; receiving = kept (s .receiving) (unprotect receiver buf n) (o .receiving) }
+next-sound s (add sender x w r) o = record { atSender = kept (s .atSender) (add sender x w r) (o .atSender); atReceiver = o .atReceiver }
+next-sound s (add receiver x w r) o = record { atSender = o .atSender; atReceiver = kept (s .atReceiver) (add receiver x w r) (o .atReceiver) }
+next-sound s (protect sender buf n) o = record { atSender = kept (s .atSender) (protect sender buf n) (o .atSender); atReceiver = o .atReceiver }
+next-sound s (protect receiver buf n) o = record { atSender = o .atSender; atReceiver = kept (s .atReceiver) (protect receiver buf n) (o .atReceiver) }
+next-sound s (unprotect sender buf n) o = record { atSender = kept (s .atSender) (unprotect sender buf n) (o .atSender); atReceiver = o .atReceiver }
+next-sound s (unprotect receiver buf n) o = record { atSender = o .atSender; atReceiver = kept (s .atReceiver) (unprotect receiver buf n) (o .atReceiver) }
 
 after-sound : (calls : List Call) (s : Sessions) → BothSound s → BothSound (after s calls)
 after-sound [] s o = o
 after-sound (c ∷ calls) s o = after-sound calls (next s c) (next-sound s c o)
 
 at-end : (e : End) (s : Sessions) → BothSound s → Sound (sessionAt e s)
-at-end sender s o = o .sending
-at-end receiver s o = o .receiving
+at-end sender s o = o .atSender
+at-end receiver s o = o .atReceiver
 
 pub sessions-are-sound : SessionsAreSound
 sessions-are-sound =
     record {
       made = made;
       kept = kept;
+      setup = setup-outcome;
       always =
           λ key salt policy ids calls e.
           at-end e (after (justMade key salt policy ids) calls)
-          (after-sound calls (justMade key salt policy ids) (record { sending = made key salt policy ids; receiving = made key salt policy ids }));
+          (after-sound calls (justMade key salt policy ids) (record { atSender = made key salt policy ids; atReceiver = made key salt policy ids }));
     }
 
 -- ---- sets of ids
 
-same-ids : (ids others : List ℕ) → ((id : ℕ) → 0 < id → among ids id ≡ among others id) → idsOf ids ≡ idsOf others
+same-ids : (ids others : List ℕ) → ((id : ℕ) → 0 < id → id < 256 → among ids id ≡ among others id) → idsOf ids ≡ idsOf others
 unfolding idsOf
-same-ids ids others e = tabulate-ext 256 (λ id. not (eqb id 0) && among ids id) (λ id. not (eqb id 0) && among others id) (λ id h. go id)
+same-ids ids others e = tabulate-ext 256 (λ id. not (eqb id 0) && among ids id) (λ id. not (eqb id 0) && among others id) go
   where
-    go : (id : ℕ) → (not (eqb id 0) && among ids id) ≡ (not (eqb id 0) && among others id)
-    go zero = refl
-    go (suc id) = rw (e (suc id) (omega arith))
+    go : (id : ℕ) → id < 256 → (not (eqb id 0) && among ids id) ≡ (not (eqb id 0) && among others id)
+    go zero h = refl
+    go (suc id) h = rw (e (suc id) (omega arith) h)
 
 pub equal-sets : EqualSetsEqualSessions
 unfolding makeOf

@@ -23,9 +23,9 @@ use Rattle.srtp.specs.Making.{keysOf, idsOf, makeOf}
 use Rattle.srtp.specs.Adding.{addOf}
 use Rattle.srtp.specs.Packets.{Answer, protectEffect, unprotectEffect, protectOf, unprotectOf}
 use Rattle.theorems.specs.Lists.{sender, receiver, Call, add, protect, unprotect, Each, Bytes}
-use Rattle.theorems.specs.Sent.{Sent, nothing, sentFrom, noPacket, added, noEvent, SentAs, SentUnderItsIndex}
+use Rattle.theorems.specs.Sent.{Sent, noneSent, sentFrom, noPacket, added, noEvent, SentAs, SentUnderItsIndex}
 use Rattle.theorems.specs.Arrivals.{Mark, Arrival, arrivalsOf, othersOf, Carries, Premises, Right, AsTheLedger, ArrivalsFollowTheLedger}
-use Rattle.theorems.specs.Example.{key, salt, voice, drums, calls, events, wire, sentAs, voice0, voice1, voice2, voice3, voice4, drums0, junk, voiceSent, drumsSent, marked, voiceMarks, drumsMarks, PremisesAreMet, answerAt, HollowProgramsDiffer}
+use Rattle.theorems.specs.Example.{key, salt, voice, drums, calls, events, wire, sentAs, voice0, voice1, voice2, voice3, voice4, drums0, wrongVersion, voiceSent, drumsSent, marked, voiceMarks, drumsMarks, PremisesAreMet, answerAt, HollowProgramsDiffer}
 use Rattle.theorems.proofs.Records.{clash}
 use Rattle.theorems.proofs.Sending.{sent-under-its-index}
 use Rattle.theorems.proofs.Arriving.{follow}
@@ -83,13 +83,13 @@ known-wires x [] e = refl
 known-wires x (s ∷ l) (e, es) =
     ap₂ (λ (w : List ℕ) (r : List Sent). record { index = s .index; packet = s .packet; wire = w } ∷ r) (e .wire) (known-wires x l es)
 
-voice-pairs : map pairOf (sentFrom voice 0 nothing events)
+voice-pairs : map pairOf (sentFrom voice 0 noneSent events)
     ≡ record { index = 65534; packet = voice0 } ∷ record { index = 65535; packet = voice1 } ∷ record { index = 65536; packet = voice2 }
     ∷ record { index = 65736; packet = voice3 } ∷ record { index = 65737; packet = voice4 } ∷ []
 unfolding makeOf addOf protectOf unprotectOf protectEffect unprotectEffect judgedOf headerOf boundedOf layoutOf seqOf ssrcOf sendOf nextOf stepOf
 voice-pairs = refl
 
-drums-pairs : map pairOf (sentFrom drums 7 nothing events) ≡ record { index = 458761; packet = drums0 } ∷ []
+drums-pairs : map pairOf (sentFrom drums 7 noneSent events) ≡ record { index = 458761; packet = drums0 } ∷ []
 unfolding makeOf addOf protectOf unprotectOf protectEffect unprotectEffect judgedOf headerOf boundedOf layoutOf seqOf ssrcOf sendOf nextOf stepOf
 drums-pairs = refl
 
@@ -102,17 +102,17 @@ unfolding makeOf addOf
 adds-drums = (refl, refl)
 
 under-index : (x rollover i : ℕ) → rollover < 2 ^ 32 → getD events i noEvent ≡ added sender x Sending rollover
-    → Each (SentAs key salt 2 [] x) (sentFrom x rollover nothing events)
+    → Each (SentAs key salt 2 [] x) (sentFrom x rollover noneSent events)
 unfolding SentUnderItsIndex
 under-index x rollover i large q = sent-under-its-index key salt 2 [] calls bytes x rollover i large q
 
-pub sent : voiceSent ≡ sentFrom voice 0 nothing events
+pub sent : voiceSent ≡ sentFrom voice 0 noneSent events
 sent =
-    sym (known-wires voice (sentFrom voice 0 nothing events) (under-index voice 0 0 (omega arith) (adds .0)) ∙ ap (map (sentPair voice)) voice-pairs)
+    sym (known-wires voice (sentFrom voice 0 noneSent events) (under-index voice 0 0 (omega arith) (adds .0)) ∙ ap (map (sentPair voice)) voice-pairs)
 
-pub sent-drums : drumsSent ≡ sentFrom drums 7 nothing events
+pub sent-drums : drumsSent ≡ sentFrom drums 7 noneSent events
 sent-drums =
-    sym (known-wires drums (sentFrom drums 7 nothing events) (under-index drums 7 2 (omega arith) (adds-drums .0)) ∙ ap (map (sentPair drums)) drums-pairs)
+    sym (known-wires drums (sentFrom drums 7 noneSent events) (under-index drums 7 2 (omega arith) (adds-drums .0)) ∙ ap (map (sentPair drums)) drums-pairs)
 
 -- ---- what arrives
 
@@ -135,7 +135,7 @@ of-drums : ssrcOf (place (wire drums 458761 drums0)) ≡ drums
 unfolding areBytes judgedOf headerOf boundedOf layoutOf ssrcOf
 of-drums = wire-ssrc drums 458761 drums0 refl refl
 
-junk-ssrc : ssrcOf (take (length junk) junk) ≡ voice
+junk-ssrc : ssrcOf (take (length wrongVersion) wrongVersion) ≡ voice
 unfolding ssrcOf
 junk-ssrc = refl
 
@@ -202,7 +202,7 @@ numbered policy l held [] e = refl
 numbered policy l held (a ∷ rest) (e, f, g) = ap₂ (λ (n : ℕ) (ns : List ℕ). n ∷ ns) e (numbered policy l _ rest g)
 
 followed : (x rollover i j : ℕ) → rollover < 2 ^ 32 → getD events i noEvent ≡ added sender x Sending rollover → getD events j noEvent ≡ added receiver x Receiving rollover
-    → (l : List Sent) → l ≡ sentFrom x rollover nothing events → (marks : ℕ → Mark) → Premises x rollover l marks (drop (suc j) events)
+    → (l : List Sent) → l ≡ sentFrom x rollover noneSent events → (marks : ℕ → Mark) → Premises x rollover l marks (drop (suc j) events)
     → AsTheLedger CryptexRequired l [] (arrivalsOf marks (drop (suc j) events))
 unfolding ArrivalsFollowTheLedger
 followed x rollover i j large there here l e marks p = follow key salt 2 [] calls bytes events refl x rollover i j large there here l e marks p
@@ -268,7 +268,7 @@ hollow-programs-differ =
       not-refused = (ap (λ (a : Answer). a .number) sends0, f .0);
       not-fixed = (
         λ e. let z : _≡_ {A = ℕ} 29 32 = ap (λ (a : Answer). a .length) (sym sends0 ∙ e ∙ sends2) in omega arith,
-        λ e. let z : _≡_ {A = ℕ} 0 13 = sym (f .0) ∙ ap (λ (a : Answer). a .number) e ∙ f .2 .2 .2 .0 in omega arith,
+        λ e. let z : _≡_ {A = ℕ} 19 22 = sym (f .1 (f .0) .same refl .0) ∙ ap (λ (a : Answer). a .length) e ∙ f .2 .1 (f .2 .0) .same refl .0 in omega arith,
       );
       not-left = (
         λ e. not-left-by-protect voice 65534 voice0 refl refl refl (λ q. omega arith) (replicate 16 0) (replicate 6 0) (ap (λ (a : Answer). a .buffer) (sym sends0) ∙ e),

@@ -17,8 +17,8 @@ use Rattle.srtp.specs.declared.session.Kind.{Kind}
 use Rattle.srtp.specs.declared.session.Kind.the-variants.{Free, Sender, Receiver}
 use Rattle.srtp.specs.declared.session.Record.{Record}
 use Rattle.srtp.specs.declared.session.Session.{Session}
-use Rattle.srtp.specs.Records.{kindOf, serves, isFree, isFor, freshRecord, none, some, recordFor, withReplay, storeFor, hasSsrc, isFull, placed}
-use Rattle.srtp.specs.Making.{Made}
+use Rattle.srtp.specs.Records.{kindOf, hasWay, isFree, isFor, freshRecord, none, some, recordFor, withReplay, storeFor, hasSsrc, isFull, placed}
+use Rattle.srtp.specs.declared.session.Made.{Made}
 use Rattle.srtp.specs.Adding.{notAdded, addOf}
 
 -- ---- tests
@@ -35,34 +35,34 @@ pub or-false : (a b : Bool) → (a || b) ≡ false → b ≡ false
 or-false true b e = clash true refl e
 or-false false b e = e
 
-serves-one : (k : Kind) (w v : Way) → serves k w ≡ true → serves k v ≡ true → w ≡ v
-serves-one Free w v p q = clash false p refl
-serves-one Sender Sending Sending p q = refl
-serves-one Sender Sending Receiving p q = clash false q refl
-serves-one Sender Receiving v p q = clash false p refl
-serves-one Receiver Sending v p q = clash false p refl
-serves-one Receiver Receiving Sending p q = clash false q refl
-serves-one Receiver Receiving Receiving p q = refl
+one-way : (k : Kind) (w v : Way) → hasWay k w ≡ true → hasWay k v ≡ true → w ≡ v
+one-way Free w v p q = clash false p refl
+one-way Sender Sending Sending p q = refl
+one-way Sender Sending Receiving p q = clash false q refl
+one-way Sender Receiving v p q = clash false p refl
+one-way Receiver Sending v p q = clash false p refl
+one-way Receiver Receiving Sending p q = clash false q refl
+one-way Receiver Receiving Receiving p q = refl
 
-serves-own : (w : Way) → serves (kindOf w) w ≡ true
-serves-own Sending = refl
-serves-own Receiving = refl
+own-way : (w : Way) → hasWay (kindOf w) w ≡ true
+own-way Sending = refl
+own-way Receiving = refl
 
-serving : (k : Kind) (w : Way) → serves k w ≡ true → isFree k ≡ false
+serving : (k : Kind) (w : Way) → hasWay k w ≡ true → isFree k ≡ false
 serving Free w e = sym e
 serving Sender w e = refl
 serving Receiver w e = refl
 
-free-serves : (k : Kind) (w : Way) → isFree k ≡ true → serves k w ≡ false
-free-serves Free w e = refl
-free-serves Sender w e = clash false e refl
-free-serves Receiver w e = clash false e refl
+free-no-way : (k : Kind) (w : Way) → isFree k ≡ true → hasWay k w ≡ false
+free-no-way Free w e = refl
+free-no-way Sender w e = clash false e refl
+free-no-way Receiver w e = clash false e refl
 
 pub free-for : (r : Record) (x : ℕ) (w : Way) → isFree (r .kind) ≡ true → isFor r x w ≡ false
-free-for r x w e = and-false (eqb (r .ssrc) x) (serves (r .kind) w) (λ p q. clash (serves (r .kind) w) q (free-serves (r .kind) w e))
+free-for r x w e = and-false (eqb (r .ssrc) x) (hasWay (r .kind) w) (λ p q. clash (hasWay (r .kind) w) q (free-no-way (r .kind) w e))
 
 fresh-for : (x : ℕ) (w : Way) (rollover : ℕ) → isFor (freshRecord x w rollover) x w ≡ true
-fresh-for x w rollover = rw (eq-eqb x x refl) (serves-own w)
+fresh-for x w rollover = rw (eq-eqb x x refl) (own-way w)
 
 -- ---- a replay state stored
 
@@ -80,10 +80,10 @@ module _ (x : ℕ) (w : Way) (t : ReplayState) where
 module _ (x y : ℕ) (w v : Way) (differ : w ≡ v → x ≡ y → ⊥) where
   other : (r : Record) → isFor r x w ≡ true → isFor r y v ≡ false
   other r e =
-      let p : eqb (r .ssrc) x ≡ true = and-left (eqb (r .ssrc) x) (serves (r .kind) w) e in
-      let q : serves (r .kind) w ≡ true = and-right (eqb (r .ssrc) x) (serves (r .kind) w) e in
-      and-false (eqb (r .ssrc) y) (serves (r .kind) v)
-      (λ f g. differ (serves-one (r .kind) w v q g) (sym (eqb-true (r .ssrc) x p) ∙ eqb-true (r .ssrc) y f))
+      let p : eqb (r .ssrc) x ≡ true = and-left (eqb (r .ssrc) x) (hasWay (r .kind) w) e in
+      let q : hasWay (r .kind) w ≡ true = and-right (eqb (r .ssrc) x) (hasWay (r .kind) w) e in
+      and-false (eqb (r .ssrc) y) (hasWay (r .kind) v)
+      (λ f g. differ (one-way (r .kind) w v q g) (sym (eqb-true (r .ssrc) x p) ∙ eqb-true (r .ssrc) y f))
 
   other-step : (t : ReplayState) (q : Record) (l : List Record) (b : Bool) → isFor q x w ≡ b → recordFor (storeFor l x w t) y v ≡ recordFor l y v
       → recordFor (pick b (withReplay q t ∷ l) (q ∷ storeFor l x w t)) y v ≡ recordFor (q ∷ l) y v
@@ -122,8 +122,8 @@ none-found (q ∷ l) x w e = go (isFor q x w) refl (none-found l x w)
   where
     go : (b : Bool) → isFor q x w ≡ b → (hasSsrc l x ≡ false → recordFor l x w ≡ none) → pick b (some q) (recordFor l x w) ≡ none
     go true h rec =
-        let p : eqb (q .ssrc) x ≡ true = and-left (eqb (q .ssrc) x) (serves (q .kind) w) h in
-        let s : isFree (q .kind) ≡ false = serving (q .kind) w (and-right (eqb (q .ssrc) x) (serves (q .kind) w) h) in
+        let p : eqb (q .ssrc) x ≡ true = and-left (eqb (q .ssrc) x) (hasWay (q .kind) w) h in
+        let s : isFree (q .kind) ≡ false = serving (q .kind) w (and-right (eqb (q .ssrc) x) (hasWay (q .kind) w) h) in
         let f : hasSsrc (q ∷ l) x ≡ true = simp (s, p) in
         clash _ f e
     go false h rec = rec (or-false (not (isFree (q .kind)) && eqb (q .ssrc) x) (hasSsrc l x) e)
@@ -236,7 +236,7 @@ module _ (s : Session) (x : ℕ) (w : Way) (rollover : ℕ) where
 module _ (s : Session) (y : ℕ) (v : Way) (rollover : ℕ) (x : ℕ) (w : Way) (r : Record) (e : recordFor (s .records) x w ≡ some r) where
   not-new : hasSsrc (s .records) y ≡ false → isFor (freshRecord y v rollover) x w ≡ false
   not-new h =
-      and-false (eqb y x) (serves (kindOf v) w) (λ f g.
+      and-false (eqb y x) (hasWay (kindOf v) w) (λ f g.
       let z : y ≡ x = eqb-true y x f in
       let n : recordFor (s .records) x w ≡ none = none-found (s .records) x w (rw z at h) in
       apart cc)

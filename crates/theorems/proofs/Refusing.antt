@@ -29,7 +29,7 @@ use Rattle.packet.specs.Judging.{tailOf, profileFits, elementsFit, sizeFits, ju
 use Rattle.packet.specs.Wire.{tagFits}
 use Rattle.srtp.specs.declared.session.Setup.{Setup}
 use Rattle.srtp.specs.Records.{Found, none, some}
-use Rattle.srtp.specs.Packets.{tagLength, Effect, refuse, give, wireLength, protectAt, protectIn, protectRead, protectEffect, unprotectAt, unprotectIn, unprotectRead, unprotectEffect}
+use Rattle.srtp.specs.Packets.{listedBy, tagLength, Effect, refuse, give, wireLength, protectAt, protectIn, protectRead, protectEffect, unprotectAt, unprotectIn, unprotectRead, unprotectEffect}
 
 -- no refusal has number 0
 pub above-zero : (r : Refusal) → 0 < numberOf r
@@ -66,11 +66,19 @@ abbrev pub IndexBetween : ℕ → ℕ → Judged → Type 0
 IndexBetween a b (Index i) = Unit {0}
 IndexBetween a b (NoIndex r) = Between a b r
 
-header-by : (a b c : Bool) (h : Layout) → HeaderBetween 2 7 (pick a (Refused Short) (pick b (Refused Version) (pick c (Refused NoHeader) (Read h))))
+header-by : (a b c : Bool) (h : Layout) → HeaderBetween 2 4 (pick a (Refused Short) (pick b (Refused Version) (pick c (Refused NoHeader) (Read h))))
 header-by true b c h = (omega arith, omega arith)
 header-by false true c h = (omega arith, omega arith)
 header-by false false true h = (omega arith, omega arith)
 header-by false false false h = tt
+
+looser : (h : Header) → HeaderBetween 2 4 h → HeaderBetween 2 7 h
+looser (Read h) e = tt
+looser (Refused r) e = (e .0, omega (arith, e .1))
+
+pub two-to-four : (p : List ℕ) (t : ℕ) → HeaderBetween 2 4 (headerOf p t)
+unfolding headerOf boundedOf
+two-to-four p t = header-by (ltb (length p) (12 + t)) (not (eqb (versionOf p) 2)) (ltb (length p - t) (layoutOf p .payload)) (layoutOf p)
 
 judged-by : (a b c : Bool) (h : Layout) → HeaderBetween 2 7 (pick a (Refused Profile) (pick b (Refused Element) (pick c (Refused Large) (Read h))))
 judged-by true b c h = (omega arith, omega arith)
@@ -83,10 +91,8 @@ after-by way policy t p (Refused r) e = e
 after-by way policy t p (Read h) e = judged-by (not (profileFits way policy h)) (not (elementsFit policy h p)) (not (sizeFits way policy t h p)) h
 
 pub two-to-seven : (way : Way) (policy : Policy) (t : ℕ) (p : List ℕ) → HeaderBetween 2 7 (judgedOf way policy t p)
-unfolding judgedOf headerOf boundedOf
-two-to-seven way policy t p =
-    after-by way policy t p (headerOf p (tailOf way t))
-    (header-by (ltb (length p) (12 + tailOf way t)) (not (eqb (versionOf p) 2)) (ltb (length p - tailOf way t) (layoutOf p .payload)) (layoutOf p))
+unfolding judgedOf
+two-to-seven way policy t p = after-by way policy t p (headerOf p (tailOf way t)) (looser (headerOf p (tailOf way t)) (two-to-four p (tailOf way t)))
 
 sent-by : (a b c : Bool) (i j : ℕ) → IndexBetween 10 11 (pick a (pick b (NoIndex Order) (pick c (NoIndex Worn) (Index i))) (Index j))
 sent-by true true c i j = (omega arith, omega arith)
@@ -142,26 +148,26 @@ pub record LateToUnprotect (r : Refusal) : Type 0 where
   pub high : numberOf r ≤ 14
 
 module _ (setup : Setup) (buf : List ℕ) (n : ℕ) where
-  protect-at : (j : Judged) (t : ReplayState) → IndexBetween 10 11 j → Refuses LateToProtect (protectAt setup buf n j t)
+  protect-at : (j : Judged) (t : ReplayState) → IndexBetween 10 11 j → Refuses LateToProtect (protectAt (setup .keys) (setup .policy) (listedBy setup) buf n j t)
   protect-at (Index i) t e = tt
   protect-at (NoIndex r) t e = (omega (arith, e .0), e .1)
 
-  protect-in : (room : Bool) (found : Found) → Refuses LateToProtect (pick room (refuse Room) (protectIn setup buf n found))
+  protect-in : (room : Bool) (found : Found) → Refuses LateToProtect (pick room (refuse Room) (protectIn (setup .keys) (setup .policy) (listedBy setup) buf n found))
   protect-in true found = (omega arith, omega arith)
   protect-in false none = (omega arith, omega arith)
   protect-in false (some r) =
       protect-at (sendOf (r .replay) (r .rollover) (seqOf (take n buf)) .judged) (sendOf (r .replay) (r .rollover) (seqOf (take n buf)) .state)
       (ten-or-eleven (r .replay) (r .rollover) (seqOf (take n buf)))
 
-  protect-read : (h : Header) → HeaderBetween 2 7 h → Timing LateToProtect (protectRead setup buf n h)
+  protect-read : (h : Header) → HeaderBetween 2 7 h → Timing LateToProtect (protectRead (setup .keys) (setup .policy) (listedBy setup) buf n h)
   protect-read (Refused r) e = early (record { reason = r; refuses = λ found. refl }) (e .1)
-  protect-read (Read h) e = later (λ found. protect-in (ltb (length buf) (wireLength setup buf n)) found)
+  protect-read (Read h) e = later (λ found. protect-in (ltb (length buf) (wireLength (setup .policy) buf n)) found)
 
-  protect-first : (c : Bool) (h : Header) → HeaderBetween 2 7 h → Timing LateToProtect (λ found. pick c (refuse Length) (protectRead setup buf n h found))
+  protect-first : (c : Bool) (h : Header) → HeaderBetween 2 7 h → Timing LateToProtect (λ found. pick c (refuse Length) (protectRead (setup .keys) (setup .policy) (listedBy setup) buf n h found))
   protect-first true h e = early (record { reason = Length; refuses = λ found. refl }) (omega arith)
   protect-first false h e = protect-read h e
 
-  pub protect-timing : Timing LateToProtect (protectEffect setup buf n)
+  pub protect-timing : Timing LateToProtect (protectEffect (setup .keys) (setup .policy) (listedBy setup) buf n)
   unfolding protectEffect
   protect-timing =
       protect-first (ltb (length buf) n) (judgedOf Sending (setup .policy) tagLength (take n buf)) (two-to-seven Sending (setup .policy) tagLength (take n buf))
@@ -170,26 +176,26 @@ module _ (setup : Setup) (buf : List ℕ) (n : ℕ) where
   tag-by true m b t = tt
   tag-by false m b t = record { low = omega arith; not-ten = λ e. omega arith; high = omega arith }
 
-  unprotect-at : (j : Judged) (t : ReplayState) → IndexBetween 11 13 j → Refuses LateToUnprotect (unprotectAt setup buf n j t)
+  unprotect-at : (j : Judged) (t : ReplayState) → IndexBetween 11 13 j → Refuses LateToUnprotect (unprotectAt (setup .keys) (setup .policy) (listedBy setup) buf n j t)
   unprotect-at (Index i) t e = tag-by (tagFits tagLength (setup .keys) i (take n buf)) _ _ t
   unprotect-at (NoIndex r) t e = record { low = omega (arith, e .0); not-ten = λ z. omega (arith, e .0); high = omega (arith, e .1) }
 
-  unprotect-in : (found : Found) → Refuses LateToUnprotect (unprotectIn setup buf n found)
+  unprotect-in : (found : Found) → Refuses LateToUnprotect (unprotectIn (setup .keys) (setup .policy) (listedBy setup) buf n found)
   unprotect-in none = record { low = omega arith; not-ten = λ e. omega arith; high = omega arith }
   unprotect-in (some r) =
       unprotect-at (receiveOf blocks width (r .replay) (r .rollover) (seqOf (take n buf)) .judged)
       (receiveOf blocks width (r .replay) (r .rollover) (seqOf (take n buf)) .state)
       (eleven-to-thirteen blocks width (r .replay) (r .rollover) (seqOf (take n buf)))
 
-  unprotect-read : (h : Header) → HeaderBetween 2 7 h → Timing LateToUnprotect (unprotectRead setup buf n h)
+  unprotect-read : (h : Header) → HeaderBetween 2 7 h → Timing LateToUnprotect (unprotectRead (setup .keys) (setup .policy) (listedBy setup) buf n h)
   unprotect-read (Refused r) e = early (record { reason = r; refuses = λ found. refl }) (e .1)
   unprotect-read (Read h) e = later unprotect-in
 
-  unprotect-first : (c : Bool) (h : Header) → HeaderBetween 2 7 h → Timing LateToUnprotect (λ found. pick c (refuse Length) (unprotectRead setup buf n h found))
+  unprotect-first : (c : Bool) (h : Header) → HeaderBetween 2 7 h → Timing LateToUnprotect (λ found. pick c (refuse Length) (unprotectRead (setup .keys) (setup .policy) (listedBy setup) buf n h found))
   unprotect-first true h e = early (record { reason = Length; refuses = λ found. refl }) (omega arith)
   unprotect-first false h e = unprotect-read h e
 
-  pub unprotect-timing : Timing LateToUnprotect (unprotectEffect setup buf n)
+  pub unprotect-timing : Timing LateToUnprotect (unprotectEffect (setup .keys) (setup .policy) (listedBy setup) buf n)
   unfolding unprotectEffect
   unprotect-timing =
       unprotect-first (ltb (length buf) n) (judgedOf Receiving (setup .policy) tagLength (take n buf)) (two-to-seven Receiving (setup .policy) tagLength (take n buf))

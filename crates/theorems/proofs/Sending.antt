@@ -1,5 +1,5 @@
 -- What a stream sends: each packet was protected under the index that the paper's rule gives it.
-use mathlib.Core.Path.{_≡_, refl, ap, _∙_, sym, subst}
+use mathlib.Core.Path.{_≡_, refl, ap, _∙_, sym}
 use mathlib.Core.Bool.{Bool, true, false, not, _&&_}
 use mathlib.Core.List.{List, [], _∷_}
 use Prim.Native.Nat.{ℕ, suc, _+_, _-_, _*_, _%_, _^_, _<_}
@@ -13,10 +13,8 @@ use Rattle.bits.specs.Pick.{pick}
 use Rattle.bits.specs.Refusals.{numberOf}
 use Rattle.bits.specs.declared.refusal.Refusal.the-variants as refusal
 use Rattle.rtp.specs.Header.{headerNumber, layoutOf, seqOf, ssrcOf}
-use Rattle.replay.specs.declared.answer.Judged.{Judged}
-use Rattle.replay.specs.declared.answer.Judged.the-variants.{Index, Refused as NoIndex}
+use Rattle.replay.specs.declared.answer.Judged.the-variants.{Index}
 use Rattle.replay.specs.declared.state.ReplayState.{ReplayState}
-use Rattle.replay.specs.Claims.{Gives}
 use Rattle.replay.specs.Guess.{lowOf}
 use Rattle.replay.specs.Send.{stepOf, sentOf, sendOf}
 use Rattle.replay.proofs.Indices.{next-gives, sending}
@@ -30,10 +28,12 @@ use Rattle.srtp.specs.declared.session.Record.{Record}
 use Rattle.srtp.specs.declared.session.Setup.{Setup}
 use Rattle.srtp.specs.declared.session.Session.{Session}
 use Rattle.srtp.specs.Records.{some, withReplay, storeFor, freshRecord}
-use Rattle.srtp.specs.Making.{setupOf, sessionOf, Made, notMade, makeOf}
+use Rattle.srtp.specs.declared.session.Made.{Made}
+use Rattle.srtp.specs.Making.{setupOf, sessionOf, notMade, makeOf}
 use Rattle.srtp.specs.Packets.{tagLength, listedBy, Effect, refuse, give, wireLength, protectEffect, Outcome, settled, protectOf, unprotectOf}
+use Rattle.srtp.proofs.Streams.{gives-at}
 use Rattle.theorems.specs.Lists.{sender, receiver, Call, add, protect, unprotect, Sessions, justMade, Event, eventsOf, Each, Bytes}
-use Rattle.theorems.specs.Sent.{Sent, Last, nothing, behind, indexOf, sentBy, sentFrom, added, noEvent, SentAs, SentUnderItsIndex}
+use Rattle.theorems.specs.Sent.{Sent, Last, noneSent, lastSent, indexOf, sentBy, sentFrom, added, noEvent, SentAs, SentUnderItsIndex}
 use Rattle.theorems.proofs.Records.{clash, found-stored}
 use Rattle.theorems.proofs.Refusing.{above-zero}
 use Rattle.theorems.proofs.Settling.{Given, given}
@@ -57,12 +57,8 @@ seq-small p b = omega (arith, b 2, b 3)
 
 -- a sender's state knows the packet sent before
 abbrev pub Knows : Last → ReplayState → Type 0
-Knows nothing t = t .started ≡ false
-Knows (behind s) t = (t .started ≡ true) × (t .highest ≡ s .index) × (lowOf (s .index) ≡ seqOf (s .packet))
-
-gives-at : (P : ℕ → Type 0) (j : Judged) (i : ℕ) → j ≡ Index i → Gives P j → P i
-gives-at P (Index k) i e g = let z : k ≡ i = cc in subst P z g
-gives-at P (NoIndex r) i e g = apart cc
+Knows noneSent t = t .started ≡ false
+Knows (lastSent s) t = (t .started ≡ true) × (t .highest ≡ s .index) × (lowOf (s .index) ≡ seqOf (s .packet))
 
 pub record Indexed (rollover : ℕ) (last : Last) (p : List ℕ) (i : ℕ) : Type 0 where
   pub index : indexOf rollover last p ≡ i
@@ -77,8 +73,8 @@ module _ (t : ReplayState) (rollover : ℕ) (large : rollover < 2 ^ 32) (p : Lis
 
   index-is : (last : Last) → Knows last t → indexOf rollover last p ≡ i
   unfolding stepOf
-  index-is nothing k = from (λ m. rollover * 65536 + seqOf p ≡ m) (λ e. refl) (λ e. clash _ e k)
-  index-is (behind s) (a, b, c) =
+  index-is noneSent k = from (λ m. rollover * 65536 + seqOf p ≡ m) (λ e. refl) (λ e. clash _ e k)
+  index-is (lastSent s) (a, b, c) =
       from (λ m. s .index + (seqOf p + 65536 - seqOf (s .packet)) % 65536 ≡ m) (λ e. clash _ a e) (λ e. rw (b, c))
 
   pub indexed : (last : Last) → Knows last t → Indexed rollover last p i
@@ -123,10 +119,10 @@ module _ (h : Setup) (x rollover : ℕ) (large : rollover < 2 ^ 32) where
     abbrev sentHere : Bool → Effect → List Sent
     sentHere b d =
         pick (b && eqb (outcome d .answer .number) 0)
-        (sentBy rollover last (take n buf) (outcome d .answer) ∷ K (behind (sentBy rollover last (take n buf) (outcome d .answer))) (outcome d .session))
+        (sentBy rollover last (take n buf) (outcome d .answer) ∷ K (lastSent (sentBy rollover last (take n buf) (outcome d .answer))) (outcome d .session))
         (K last (outcome d .session))
 
-    own : ssrcOf (take n buf) ≡ x → protectDone s buf n ≡ protectEffect h buf n (some (o .rec))
+    own : ssrcOf (take n buf) ≡ x → protectDone s buf n ≡ protectEffect (h .keys) (h .policy) (listedBy h) buf n (some (o .rec))
     own e = rw (e, o .holds .setup, o .holds .found)
 
     module _ (e : ssrcOf (take n buf) ≡ x) (m : ℕ) (b : List ℕ) (t : ReplayState) (g : Given h buf n (o .rec) m b t) where
@@ -146,8 +142,8 @@ module _ (h : Setup) (x rollover : ℕ) (large : rollover < 2 ^ 32) where
       on-wire =
           let size : length wire ≡ length (take n buf) + addedOf Sending (h .policy) tagLength (layoutOf (take n buf)) = trip h x (g .index) (take n buf) all-bytes (g .passes) .size in
           let k : length (take n buf) ≡ n = length-take-le n buf (g .inside) in
-          let w : length wire ≡ wireLength h buf n = omega arith in
-          rw (g .size, g .buffer, e) (take-at wire (drop (wireLength h buf n) buf) (wireLength h buf n) w)
+          let w : length wire ≡ wireLength (h .policy) buf n = omega arith in
+          rw (g .size, g .buffer, e) (take-at wire (drop (wireLength (h .policy) buf n) buf) (wireLength (h .policy) buf n) w)
 
       good : Good h x (sentBy rollover last (take n buf) (record { number = 0; length = m; buffer = b }))
       good =
@@ -160,7 +156,7 @@ module _ (h : Setup) (x rollover : ℕ) (large : rollover < 2 ^ 32) where
             wire = rw (numbered .index) on-wire;
           }
 
-      keeps : Keeps (behind (sentBy rollover last (take n buf) (record { number = 0; length = m; buffer = b })))
+      keeps : Keeps (lastSent (sentBy rollover last (take n buf) (record { number = 0; length = m; buffer = b })))
           (record { setup = s .setup; records = storeFor (s .records) (ssrcOf (take n buf)) Sending t })
       keeps =
           let after : t ≡ record { started = true; highest = g .index; window = o .rec .replay .window }
@@ -187,31 +183,31 @@ module _ (h : Setup) (x rollover : ℕ) (large : rollover < 2 ^ 32) where
         let g : Given h buf n (o .rec) m b t = given h buf n (o .rec) m b t (sym (own y) ∙ f) in
         (good y m b t g, ih _ _ (keeps y m b t g))
 
-  all-good : (cs : List Call) → Each Bytes cs → (s : Sessions) (last : Last) → Keeps last (s .sending) → Each (Good h x) (sentFrom x rollover last (eventsOf s cs))
+  all-good : (cs : List Call) → Each Bytes cs → (s : Sessions) (last : Last) → Keeps last (s .atSender) → Each (Good h x) (sentFrom x rollover last (eventsOf s cs))
   unfolding protectOf unprotectOf
   all-good [] b s last o = tt
   all-good (add sender y v r ∷ cs) b s last o =
-      all-good cs (b .1) _ last (record { rec = o .rec; holds = holds-add h x Sending (o .rec) (s .sending) y v r (o .holds); start = o .start; knows = o .knows })
+      all-good cs (b .1) _ last (record { rec = o .rec; holds = holds-add h x Sending (o .rec) (s .atSender) y v r (o .holds); start = o .start; knows = o .knows })
   all-good (add receiver y v r ∷ cs) b s last o = all-good cs (b .1) _ last o
   all-good (protect sender buf n ∷ cs) b s last o =
-      by-effect (s .sending) buf n (b .0) last o
-      (λ l t. sentFrom x rollover l (eventsOf (record { sending = t; receiving = s .receiving }) cs))
-      (λ l t k. all-good cs (b .1) (record { sending = t; receiving = s .receiving }) l k)
+      by-effect (s .atSender) buf n (b .0) last o
+      (λ l t. sentFrom x rollover l (eventsOf (record { atSender = t; atReceiver = s .atReceiver }) cs))
+      (λ l t k. all-good cs (b .1) (record { atSender = t; atReceiver = s .atReceiver }) l k)
       _ _ refl refl
   all-good (protect receiver buf n ∷ cs) b s last o = all-good cs (b .1) _ last o
   all-good (unprotect sender buf n ∷ cs) b s last o =
       all-good cs (b .1) _ last
       (record {
         rec = o .rec;
-        holds = holds-settled h x Sending (o .rec) (s .sending) buf (ssrcOf (take n buf)) Receiving (unprotectDone (s .sending) buf n) (λ w y. ways-differ w) (o .holds);
+        holds = holds-settled h x Sending (o .rec) (s .atSender) buf (ssrcOf (take n buf)) Receiving (unprotectDone (s .atSender) buf n) (λ w y. ways-differ w) (o .holds);
         start = o .start;
         knows = o .knows;
       })
   all-good (unprotect receiver buf n ∷ cs) b s last o = all-good cs (b .1) _ last o
 
-  pub sent-good : (rest : List Event) → Behind h sender x Sending rollover rest → Each (Good h x) (sentFrom x rollover nothing rest)
+  pub sent-good : (rest : List Event) → Behind h sender x Sending rollover rest → Each (Good h x) (sentFrom x rollover noneSent rest)
   sent-good rest a =
-      rw (a .run) (all-good (a .calls) (a .bytes) (a .sessions) nothing
+      rw (a .run) (all-good (a .calls) (a .bytes) (a .sessions) noneSent
       (record { rec = freshRecord x Sending rollover; holds = a .holds; start = refl; knows = refl }))
 
 -- ---- the whole list
@@ -235,9 +231,9 @@ module _ (key salt : List ℕ) (policy : ℕ) (ids : List ℕ) where
 
   pub all-sent : (calls : List Call) → Each Bytes calls → (x rollover i : ℕ) → rollover < 2 ^ 32
       → getD (eventsOf (justMade key salt policy ids) calls) i noEvent ≡ added sender x Sending rollover
-      → Each (Good setup x) (sentFrom x rollover nothing (eventsOf (justMade key salt policy ids) calls))
+      → Each (Good setup x) (sentFrom x rollover noneSent (eventsOf (justMade key salt policy ids) calls))
   all-sent calls bytes x rollover i large q =
-      rw (nothing-before x rollover calls (justMade key salt policy ids) i nothing q)
+      rw (nothing-before x rollover calls (justMade key salt policy ids) i noneSent q)
       (sent-good setup x rollover large (drop (suc i) (eventsOf (justMade key salt policy ids) calls))
       (behind-add setup sender x Sending rollover calls bytes (justMade key salt policy ids) i refl q))
 
@@ -251,5 +247,5 @@ unfolding SentUnderItsIndex
 sent-under-its-index key salt policy ids calls bytes x rollover i large q =
     sent-as key salt policy ids x
     (behind-add (setup key salt policy ids) sender x Sending rollover calls bytes (justMade key salt policy ids) i refl q .made)
-    (sentFrom x rollover nothing (eventsOf (justMade key salt policy ids) calls))
+    (sentFrom x rollover noneSent (eventsOf (justMade key salt policy ids) calls))
     (all-sent key salt policy ids calls bytes x rollover i large q)

@@ -58,53 +58,53 @@ module _ (setup : Setup) (buf : List ℕ) (n : ℕ) where
     pub passes : headerNumber (judgedOf Sending (setup .policy) tagLength (take n buf)) ≡ 0
     pub index : ℕ
     pub step : sendOf (r .replay) (r .rollover) (seqOf (take n buf)) .judged ≡ Index index
-    pub size : m ≡ wireLength setup buf n
-    pub buffer : b ≡ wireOf tagLength (setup .keys) (setup .policy) (listedBy setup) (ssrcOf (take n buf)) index (take n buf) ++ drop (wireLength setup buf n) buf
+    pub size : m ≡ wireLength (setup .policy) buf n
+    pub buffer : b ≡ wireOf tagLength (setup .keys) (setup .policy) (listedBy setup) (ssrcOf (take n buf)) index (take n buf) ++ drop (wireLength (setup .policy) buf n) buf
     pub state : t ≡ sendOf (r .replay) (r .rollover) (seqOf (take n buf)) .state
 
   module _ (r : Record) (m : ℕ) (b : List ℕ) (t : ReplayState) (inside : n ≤ length buf) where
     given-at : headerNumber (judgedOf Sending (setup .policy) tagLength (take n buf)) ≡ 0
         → (j : Judged) → sendOf (r .replay) (r .rollover) (seqOf (take n buf)) .judged ≡ j
-        → protectAt setup buf n j (sendOf (r .replay) (r .rollover) (seqOf (take n buf)) .state) ≡ give m b t → Given r m b t
+        → protectAt (setup .keys) (setup .policy) (listedBy setup) buf n j (sendOf (r .replay) (r .rollover) (seqOf (take n buf)) .state) ≡ give m b t → Given r m b t
     given-at p (NoIndex q) e g = apart cc
     given-at p (Index i) e g =
-        let x : wireLength setup buf n ≡ m = cc in
-        let y : wireOf tagLength (setup .keys) (setup .policy) (listedBy setup) (ssrcOf (take n buf)) i (take n buf) ++ drop (wireLength setup buf n) buf ≡ b = cc in
+        let x : wireLength (setup .policy) buf n ≡ m = cc in
+        let y : wireOf tagLength (setup .keys) (setup .policy) (listedBy setup) (ssrcOf (take n buf)) i (take n buf) ++ drop (wireLength (setup .policy) buf n) buf ≡ b = cc in
         let z : sendOf (r .replay) (r .rollover) (seqOf (take n buf)) .state ≡ t = cc in
         record { inside = inside; passes = p; index = i; step = e; size = sym x; buffer = sym y; state = sym z }
 
     given-in : (c : Bool) → headerNumber (judgedOf Sending (setup .policy) tagLength (take n buf)) ≡ 0
-        → pick c (refuse refusal.Room) (protectIn setup buf n (some r)) ≡ give m b t → Given r m b t
+        → pick c (refuse refusal.Room) (protectIn (setup .keys) (setup .policy) (listedBy setup) buf n (some r)) ≡ give m b t → Given r m b t
     given-in true p g = apart cc
     given-in false p g = given-at p _ refl g
 
-    given-read : (h : Header) → judgedOf Sending (setup .policy) tagLength (take n buf) ≡ h → protectRead setup buf n h (some r) ≡ give m b t → Given r m b t
+    given-read : (h : Header) → judgedOf Sending (setup .policy) tagLength (take n buf) ≡ h → protectRead (setup .keys) (setup .policy) (listedBy setup) buf n h (some r) ≡ give m b t → Given r m b t
     given-read (Refused q) e g = apart cc
-    given-read (Read h) e g = given-in (ltb (length buf) (wireLength setup buf n)) (ap headerNumber e) g
+    given-read (Read h) e g = given-in (ltb (length buf) (wireLength (setup .policy) buf n)) (ap headerNumber e) g
 
   given-first : (r : Record) (m : ℕ) (b : List ℕ) (t : ReplayState) (c : Bool) → ltb (length buf) n ≡ c
-      → pick c (refuse refusal.Length) (protectRead setup buf n (judgedOf Sending (setup .policy) tagLength (take n buf)) (some r)) ≡ give m b t → Given r m b t
+      → pick c (refuse refusal.Length) (protectRead (setup .keys) (setup .policy) (listedBy setup) buf n (judgedOf Sending (setup .policy) tagLength (take n buf)) (some r)) ≡ give m b t → Given r m b t
   given-first r m b t true e g = apart cc
   given-first r m b t false e g = given-read r m b t (ltb-false (length buf) n e) _ refl g
 
-  pub given : (r : Record) (m : ℕ) (b : List ℕ) (t : ReplayState) → protectEffect setup buf n (some r) ≡ give m b t → Given r m b t
+  pub given : (r : Record) (m : ℕ) (b : List ℕ) (t : ReplayState) → protectEffect (setup .keys) (setup .policy) (listedBy setup) buf n (some r) ≡ give m b t → Given r m b t
   unfolding protectEffect
   given r m b t g = given-first r m b t (ltb (length buf) n) refl g
 
   -- without a record there is none
-  none-in : (c : Bool) (m : ℕ) (b : List ℕ) (t : ReplayState) → pick c (refuse refusal.Room) (protectIn setup buf n none) ≡ give m b t → ⊥
+  none-in : (c : Bool) (m : ℕ) (b : List ℕ) (t : ReplayState) → pick c (refuse refusal.Room) (protectIn (setup .keys) (setup .policy) (listedBy setup) buf n none) ≡ give m b t → ⊥
   none-in true m b t g = apart cc
   none-in false m b t g = apart cc
 
-  none-read : (h : Header) (m : ℕ) (b : List ℕ) (t : ReplayState) → protectRead setup buf n h none ≡ give m b t → ⊥
+  none-read : (h : Header) (m : ℕ) (b : List ℕ) (t : ReplayState) → protectRead (setup .keys) (setup .policy) (listedBy setup) buf n h none ≡ give m b t → ⊥
   none-read (Refused q) m b t g = apart cc
-  none-read (Read h) m b t g = none-in (ltb (length buf) (wireLength setup buf n)) m b t g
+  none-read (Read h) m b t g = none-in (ltb (length buf) (wireLength (setup .policy) buf n)) m b t g
 
   none-first : (c : Bool) (m : ℕ) (b : List ℕ) (t : ReplayState)
-      → pick c (refuse refusal.Length) (protectRead setup buf n (judgedOf Sending (setup .policy) tagLength (take n buf)) none) ≡ give m b t → ⊥
+      → pick c (refuse refusal.Length) (protectRead (setup .keys) (setup .policy) (listedBy setup) buf n (judgedOf Sending (setup .policy) tagLength (take n buf)) none) ≡ give m b t → ⊥
   none-first true m b t g = apart cc
   none-first false m b t g = none-read (judgedOf Sending (setup .policy) tagLength (take n buf)) m b t g
 
-  pub none-given : (m : ℕ) (b : List ℕ) (t : ReplayState) → protectEffect setup buf n none ≡ give m b t → ⊥
+  pub none-given : (m : ℕ) (b : List ℕ) (t : ReplayState) → protectEffect (setup .keys) (setup .policy) (listedBy setup) buf n none ≡ give m b t → ⊥
   unfolding protectEffect
   none-given m b t g = none-first (ltb (length buf) n) m b t g

@@ -3,6 +3,7 @@ use mathlib.Core.Path.{_≡_}
 use mathlib.Core.Bool.{true, false}
 use mathlib.Core.List.{List, [], _∷_}
 use Prim.Native.Nat.{ℕ}
+use Rattle.rtp.specs.Finding.{findOf}
 use Rattle.rtp.specs.Mask.{among}
 use Rattle.packet.specs.declared.policy.Way.{Way}
 use Rattle.srtp.specs.declared.session.Session.{Session}
@@ -23,6 +24,7 @@ bufferOf (add e ssrc way rollover) = []
 bufferOf (protect e buf n) = buf
 bufferOf (unprotect e buf n) = buf
 
+-- one of the call's numbers; with a refusal length 0, and buffer and session as they were
 pub record Settled (s : Session) (c : Call) (o : Outcome) : Type 0 where
   pub number : among (numbersFor c) (o .answer .number) ≡ true
   pub length : (o .answer .number ≡ 0 → ⊥) → o .answer .length ≡ 0
@@ -32,6 +34,9 @@ pub record Settled (s : Session) (c : Call) (o : Outcome) : Type 0 where
 pub record OneAnswerEach : Type 0 where
   -- add, protect and unprotect, on any session, with anything in the buffer
   pub calls : (s : Session) (c : Call) → Settled s c (outcomeOf s c)
+  -- find in a plain packet; a refused finding hands back an empty part
+  pub find-number : (p : List ℕ) (id : ℕ) → among (0 ∷ 2 ∷ 3 ∷ 4 ∷ 6 ∷ 19 ∷ []) (findOf p id .number) ≡ true
+  pub find-refused : (p : List ℕ) (id : ℕ) → (findOf p id .number ≡ 0 → ⊥) → findOf p id .length ≡ 0
   -- make; a refused making gives the one unmade session, which takes no stream
   pub number : (key salt : List ℕ) (policy : ℕ) (ids : List ℕ) → among (0 ∷ 15 ∷ 16 ∷ []) (makeOf key salt policy ids .number) ≡ true
   pub refused : (key salt : List ℕ) (policy : ℕ) (ids : List ℕ) → (makeOf key salt policy ids .number ≡ 0 → ⊥) → makeOf key salt policy ids .session ≡ sessionOf unmade

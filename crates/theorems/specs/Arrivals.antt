@@ -14,7 +14,7 @@ use Rattle.packet.specs.Cryptex.{addsBlock}
 use Rattle.srtp.specs.Making.{policyOf}
 use Rattle.srtp.specs.Packets.{Answer}
 use Rattle.theorems.specs.Lists.{sender, receiver, Call, add, protect, unprotect, justMade, Event, event, eventsOf, Each, Bytes}
-use Rattle.theorems.specs.Sent.{Sent, nothing, sentFrom, noPacket, added, noEvent}
+use Rattle.theorems.specs.Sent.{Sent, noneSent, sentFrom, noPacket, added, noEvent}
 
 -- ---- what arrives
 
@@ -37,7 +37,7 @@ arrivalAt m (unprotect sender buf n) a l = l
 arrivalAt unmarked (unprotect receiver buf n) a l = l
 arrivalAt (carries k) (unprotect receiver buf n) a l = record { packet = k; buffer = buf; n = n; answer = a } ∷ l
 
--- an unmarked one, on a packet with this SSRC, is not: its number
+-- the number of every other unprotect there on a packet with this SSRC
 abbrev pub otherAt : ℕ → Mark → Call → Answer → List ℕ → List ℕ
 otherAt ssrc m (add e y way r) a l = l
 otherAt ssrc m (protect e buf n) a l = l
@@ -95,8 +95,9 @@ AsTheLedger policy sent held (a ∷ l) =
     × (a .answer .number ≡ 0 → Right policy (getD sent (a .packet) noPacket .packet) (a .answer))
     × AsTheLedger policy sent (enter 64 held (getD sent (a .packet) noPacket .index) .held) l
 
--- For every list of calls on two sessions just made from equal arguments, every stream that it adds at both ends with equal starting rollover, in call i
--- to send at the sender's and in call j to receive at the receiver's, and every marking of the calls after j that meets the premises.
+-- For every list of calls on two sessions just made from equal arguments (equal sets of ids make equal sessions: `EqualSetsEqualSessions`), every stream that it adds at both ends with equal starting rollover, in call i
+-- to send at the sender's and in call j to receive at the receiver's, and every marking of the calls after j that meets the premises: each arrival is as the ledger
+-- says.
 unfoldable pub ArrivalsFollowTheLedger : Type 0
 ArrivalsFollowTheLedger =
     (key salt : List ℕ) (policy : ℕ) (ids : List ℕ) (calls : List Call) → Each Bytes calls
@@ -104,6 +105,6 @@ ArrivalsFollowTheLedger =
     → (ssrc rollover i j : ℕ) → rollover < 2 ^ 32
     → getD events i noEvent ≡ added sender ssrc Sending rollover
     → getD events j noEvent ≡ added receiver ssrc Receiving rollover
-    → (sent : List Sent) → sent ≡ sentFrom ssrc rollover nothing events
+    → (sent : List Sent) → sent ≡ sentFrom ssrc rollover noneSent events
     → (marks : ℕ → Mark) → Premises ssrc rollover sent marks (drop (suc j) events)
     → AsTheLedger (policyOf policy) sent [] (arrivalsOf marks (drop (suc j) events))

@@ -12,7 +12,7 @@ use Rattle.srtp.specs.Making.{keysOf, idsOf}
 use Rattle.srtp.specs.Packets.{Answer}
 use Rattle.theorems.specs.Lists.{sender, receiver, Call, add, protect, unprotect, justMade, Event, event, eventsOf, Each, Bytes}
 use Rattle.theorems.specs.Answers.{bufferOf}
-use Rattle.theorems.specs.Sent.{Sent, nothing, sentFrom, added, noEvent}
+use Rattle.theorems.specs.Sent.{Sent, noneSent, sentFrom, added, noEvent}
 use Rattle.theorems.specs.Arrivals.{Mark, unmarked, carries, Arrival, arrivalsOf, Premises}
 
 abbrev pub key : List ℕ
@@ -55,10 +55,10 @@ abbrev pub drums0 : List ℕ
 drums0 = packetOf 0x80 (0 ∷ 9 ∷ []) (10 ∷ 11 ∷ 12 ∷ 13 ∷ []) (72 ∷ 73 ∷ [])
 
 -- of version 0, and otherwise like a packet of the voice
-abbrev pub junk : List ℕ
-junk = packetOf 0x00 (0 ∷ 1 ∷ []) voiceSsrc (replicate 20 0)
+abbrev pub wrongVersion : List ℕ
+wrongVersion = packetOf 0x00 (0 ∷ 1 ∷ []) voiceSsrc (replicate 20 0)
 
--- what is sent for a packet, and in a buffer with more behind it
+-- what is sent for a packet, and in a buffer with more bytes after it
 abbrev pub wire : ℕ → ℕ → List ℕ → List ℕ
 wire ssrc index p = wireOf 10 (keysOf key salt) CryptexRequired (λ id. getD (idsOf []) id false) ssrc index p
 
@@ -76,7 +76,7 @@ calls =
     ∷ sending voice0 ∷ sending drums0 ∷ sending voice1 ∷ sending voice2 ∷ sending voice3 ∷ sending voice4
     ∷ arriving (wire voice 65534 voice0)
     ∷ arriving (wire voice 65536 voice2)
-    ∷ unprotect receiver junk (length junk)
+    ∷ unprotect receiver wrongVersion (length wrongVersion)
     ∷ arriving (wire drums 458761 drums0)
     ∷ arriving (wire voice 65535 voice1)
     ∷ arriving (wire voice 65536 voice2)
@@ -112,8 +112,8 @@ pub record PremisesAreMet : Type 0 where
   pub bytes : Each Bytes calls
   pub adds : (getD events 0 noEvent ≡ added sender voice Sending 0) × (getD events 1 noEvent ≡ added receiver voice Receiving 0)
   pub adds-drums : (getD events 2 noEvent ≡ added sender drums Sending 7) × (getD events 3 noEvent ≡ added receiver drums Receiving 7)
-  pub sent : voiceSent ≡ sentFrom voice 0 nothing events
-  pub sent-drums : drumsSent ≡ sentFrom drums 7 nothing events
+  pub sent : voiceSent ≡ sentFrom voice 0 noneSent events
+  pub sent-drums : drumsSent ≡ sentFrom drums 7 noneSent events
   pub met : Premises voice 0 voiceSent (marked voiceMarks) (drop 2 events)
   pub met-drums : Premises drums 7 drumsSent (marked drumsMarks) (drop 4 events)
   -- so, by `ArrivalsFollowTheLedger`, these are the numbers: given back, given back, late and given back, repeated, given back, old
@@ -134,12 +134,12 @@ answerAt k = answerIn (getD events k noEvent)
 abbrev pub bufferAt : ℕ → List ℕ
 bufferAt k = bufferIn (getD events k noEvent)
 
--- Calls 4 and 7 send, and in calls 10 and 11 arrive, the voice's packets 0 and 2; in call 15 packet 2 arrives again.
+-- Calls 4 and 7 send, and in calls 10 and 11 arrive, the voice's packets 0 and 2, of 19 and 22 bytes.
 pub record HollowProgramsDiffer : Type 0 where
   -- one that refuses everything
   pub not-refused : (answerAt 4 .number ≡ 0) × (answerAt 10 .number ≡ 0)
   -- one with a fixed answer
-  pub not-fixed : (answerAt 4 ≡ answerAt 7 → ⊥) × (answerAt 10 ≡ answerAt 15 → ⊥)
+  pub not-fixed : (answerAt 4 ≡ answerAt 7 → ⊥) × (answerAt 10 ≡ answerAt 11 → ⊥)
   -- one that leaves the buffer
   pub not-left : (answerAt 4 .buffer ≡ bufferAt 4 → ⊥) × (answerAt 10 .buffer ≡ bufferAt 10 → ⊥)
   -- one that is right only for a stream's first packet, and echoes later ones

@@ -4,7 +4,8 @@ use Prim.Native.Nat.{ℕ, _<_}
 use lib.ListN.{getD}
 use Rattle.packet.specs.declared.policy.Way.{Way}
 use Rattle.srtp.specs.declared.session.Session.{Session}
-use Rattle.srtp.specs.Making.{Made, makeOf}
+use Rattle.srtp.specs.declared.session.Made.{Made}
+use Rattle.srtp.specs.Making.{makeOf}
 use Rattle.srtp.specs.Adding.{addOf}
 use Rattle.srtp.specs.Packets.{Answer, Outcome, protectOf, unprotectOf}
 
@@ -25,20 +26,20 @@ endOf (protect e buf n) = e
 endOf (unprotect e buf n) = e
 
 pub record Sessions : Type 0 where
-  pub sending : Session
-  pub receiving : Session
+  pub atSender : Session
+  pub atReceiver : Session
 
 abbrev pub sessionAt : End → Sessions → Session
-sessionAt sender s = s .sending
-sessionAt receiver s = s .receiving
+sessionAt sender s = s .atSender
+sessionAt receiver s = s .atReceiver
 
 abbrev pub withSession : End → Sessions → Session → Sessions
-withSession sender s t = record { sending = t; receiving = s .receiving }
-withSession receiver s t = record { sending = s .sending; receiving = t }
+withSession sender s t = record { atSender = t; atReceiver = s .atReceiver }
+withSession receiver s t = record { atSender = s .atSender; atReceiver = t }
 
 -- "Both sessions start just made, with equal master key, master salt, policy and set."
 abbrev pub justMade : List ℕ → List ℕ → ℕ → List ℕ → Sessions
-justMade key salt policy ids = record { sending = makeOf key salt policy ids .session; receiving = makeOf key salt policy ids .session }
+justMade key salt policy ids = record { atSender = makeOf key salt policy ids .session; atReceiver = makeOf key salt policy ids .session }
 
 -- ---- one call
 

@@ -28,12 +28,12 @@ wayIn (protect e buf n) = Sending
 wayIn (unprotect e buf n) = Receiving
 
 -- refused with LENGTH or SHORT
-abbrev pub Unread : Answer → Type 0
-Unread a = (a .number ≡ 1) ⊎ (a .number ≡ 2)
+abbrev pub LengthOrShort : Answer → Type 0
+LengthOrShort a = (a .number ≡ 1) ⊎ (a .number ≡ 2)
 
 -- "Two are for different streams where SSRC, way or session differs, or where one is refused with LENGTH or SHORT.": c at the sessions s, and then d
-abbrev pub Apart : Sessions → Call → Call → Type 0
-Apart s c d = (endOf c ≡ endOf d → wayIn c ≡ wayIn d → ssrcIn c ≡ ssrcIn d → ⊥) ⊎ (Unread (answerOf s c) ⊎ Unread (answerOf (next s c) d))
+abbrev pub DifferentStreams : Sessions → Call → Call → Type 0
+DifferentStreams s c d = (endOf c ≡ endOf d → wayIn c ≡ wayIn d → ssrcIn c ≡ ssrcIn d → ⊥) ⊎ (LengthOrShort (answerOf s c) ⊎ LengthOrShort (answerOf (next s c) d))
 
 -- a list with its elements k and k + 1 in each other's place
 abbrev pub exchanged : {A : Type 0} → ℕ → List A → List A
@@ -45,6 +45,6 @@ exchanged (suc k) (a ∷ l) = a ∷ exchanged k l
 -- From any two sessions: each call, later ones included, has the same answer and leaves the same buffer, and both sessions come out the same.
 unfoldable pub NeighboursChangePlaces : Type 0
 NeighboursChangePlaces =
-    (s : Sessions) (before later : List Call) (c d : Call) → IsPacketCall c → IsPacketCall d → Apart (after s before) c d
+    (s : Sessions) (before later : List Call) (c d : Call) → IsPacketCall c → IsPacketCall d → DifferentStreams (after s before) c d
     → (run s (before ++ d ∷ c ∷ later) .events ≡ exchanged (length before) (run s (before ++ c ∷ d ∷ later) .events))
     × (run s (before ++ d ∷ c ∷ later) .sessions ≡ run s (before ++ c ∷ d ∷ later) .sessions)

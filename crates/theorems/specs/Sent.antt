@@ -22,14 +22,14 @@ pub record Sent : Type 0 where
 
 -- the packet sent before, if there is one
 pub data Last : Type 0 where
-  nothing : Last
-  behind : Sent → Last
+  noneSent : Last
+  lastSent : Sent → Last
 
 -- "The first sent has index starting rollover * 65,536 + its sequence number; each later one has the index sent before it plus the step.": the sequence
 -- number minus the last's, modulo 65,536
 abbrev pub indexOf : ℕ → Last → List ℕ → ℕ
-indexOf rollover nothing p = rollover * 65536 + seqOf p
-indexOf rollover (behind s) p = s .index + (seqOf p + 65536 - seqOf (s .packet)) % 65536
+indexOf rollover noneSent p = rollover * 65536 + seqOf p
+indexOf rollover (lastSent s) p = s .index + (seqOf p + 65536 - seqOf (s .packet)) % 65536
 
 abbrev pub sentBy : ℕ → Last → List ℕ → Answer → Sent
 sentBy rollover last p a = record { index = indexOf rollover last p; packet = p; wire = take (a .length) (a .buffer) }
@@ -40,7 +40,7 @@ sentFrom ssrc rollover last [] = []
 sentFrom ssrc rollover last (event (add e y way r) a ∷ es) = sentFrom ssrc rollover last es
 sentFrom ssrc rollover last (event (protect sender buf n) a ∷ es) =
     pick (eqb (ssrcOf (take n buf)) ssrc && eqb (a .number) 0)
-    (sentBy rollover last (take n buf) a ∷ sentFrom ssrc rollover (behind (sentBy rollover last (take n buf) a)) es)
+    (sentBy rollover last (take n buf) a ∷ sentFrom ssrc rollover (lastSent (sentBy rollover last (take n buf) a)) es)
     (sentFrom ssrc rollover last es)
 sentFrom ssrc rollover last (event (protect receiver buf n) a ∷ es) = sentFrom ssrc rollover last es
 sentFrom ssrc rollover last (event (unprotect e buf n) a ∷ es) = sentFrom ssrc rollover last es
@@ -48,7 +48,7 @@ sentFrom ssrc rollover last (event (unprotect e buf n) a ∷ es) = sentFrom ssrc
 abbrev pub noPacket : Sent
 noPacket = record { index = 0; packet = []; wire = [] }
 
--- an add with a result; and what is read past the end of the events, which is none
+-- the event of an add with a result; and what is read past the end of the events: a refused add, so that it is never taken for one
 abbrev pub added : End → ℕ → Way → ℕ → Event
 added e ssrc way rollover = event (add e ssrc way rollover) (record { number = 0; length = 0; buffer = [] })
 
@@ -70,4 +70,4 @@ SentUnderItsIndex =
     (key salt : List ℕ) (policy : ℕ) (ids : List ℕ) (calls : List Call) → Each Bytes calls
     → (ssrc rollover i : ℕ) → rollover < 2 ^ 32
     → getD (eventsOf (justMade key salt policy ids) calls) i noEvent ≡ added sender ssrc Sending rollover
-    → Each (SentAs key salt policy ids ssrc) (sentFrom ssrc rollover nothing (eventsOf (justMade key salt policy ids) calls))
+    → Each (SentAs key salt policy ids ssrc) (sentFrom ssrc rollover noneSent (eventsOf (justMade key salt policy ids) calls))

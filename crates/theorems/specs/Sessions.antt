@@ -12,25 +12,27 @@ use Rattle.srtp.specs.Making.{keysOf, unmade, sessionOf, makeOf}
 use Rattle.theorems.specs.Lists.{End, Call, sessionAt, justMade, outcomeOf, after}
 
 -- no SSRC twice
-abbrev pub Once : List Record → Type 0
-Once [] = Unit {0}
-Once (r ∷ l) = (isFree (r .kind) ≡ false → hasSsrc l (r .ssrc) ≡ false) × Once l
+abbrev pub NoSsrcTwice : List Record → Type 0
+NoSsrcTwice [] = Unit {0}
+NoSsrcTwice (r ∷ l) = (isFree (r .kind) ≡ false → hasSsrc l (r .ssrc) ≡ false) × NoSsrcTwice l
 
 pub record Sound (s : Session) : Type 0 where
   -- the session keys are those derived from its master key and salt
   pub keys : s .setup .made ≡ true → s .setup .keys ≡ keysOf (s .setup .key) (s .setup .salt)
   pub not-made : s .setup .made ≡ false → s ≡ sessionOf unmade
-  -- at most 32 streams
+  -- 32 places, so at most 32 streams
   pub places : length (s .records) ≡ 32
-  pub once : Once (s .records)
+  pub once : NoSsrcTwice (s .records)
 
 pub record SessionsAreSound : Type 0 where
   pub made : (key salt : List ℕ) (policy : ℕ) (ids : List ℕ) → Sound (makeOf key salt policy ids .session)
   pub kept : (s : Session) (c : Call) → Sound s → Sound (outcomeOf s c .session)
+  -- no call changes what a session was made from
+  pub setup : (s : Session) (c : Call) → outcomeOf s c .session .setup ≡ s .setup
   -- so it holds after every list of calls
   pub always : (key salt : List ℕ) (policy : ℕ) (ids : List ℕ) (calls : List Call) (e : End) → Sound (sessionAt e (after (justMade key salt policy ids) calls))
 
--- equal sets of ids give equal sessions: order, repeats and 0 do not matter
+-- Equal sets of ids give equal sessions: order, repeats and 0 do not matter, and no byte is above 255.
 pub record EqualSetsEqualSessions : Type 0 where
-  pub equal : (key salt : List ℕ) (policy : ℕ) (ids others : List ℕ) → ((id : ℕ) → 0 < id → among ids id ≡ among others id)
+  pub equal : (key salt : List ℕ) (policy : ℕ) (ids others : List ℕ) → ((id : ℕ) → 0 < id → id < 256 → among ids id ≡ among others id)
       → makeOf key salt policy ids ≡ makeOf key salt policy others

@@ -1,4 +1,4 @@
-// Demand 1 and demand 3.
+// Demands 1 to 3 over lists of calls, what holds of every session, and document 01's sums.
 ghost use Rattle.theorems.specs.Answers.{OneAnswerEach};
 ghost use Rattle.theorems.specs.Arrivals.{ArrivalsFollowTheLedger};
 ghost use Rattle.theorems.specs.Example.{PremisesAreMet, HollowProgramsDiffer};
@@ -7,12 +7,12 @@ ghost use Rattle.theorems.specs.Sent.{SentUnderItsIndex};
 ghost use Rattle.theorems.specs.Sums.{SumsHold};
 ghost use Rattle.theorems.specs.Sessions.{SessionsAreSound, EqualSetsEqualSessions};
 
-// Demand 1: a call gives its result or one of its numbers, and a refusal changes nothing.
+// Demand 1: a call gives its result or one of its numbers, and a refusal changes noneSent.
 pub fn one_answer_each()
     ensures { λ _. ⌜ OneAnswerEach ⌝ }
 {}
 
-// Every session has the keys of its master key and salt, at most 32 streams, and no SSRC twice.
+// A made session has the keys of its master key and salt, an unmade one is the fixed one; each has at most 32 streams and no SSRC twice.
 pub fn sessions_are_sound()
     ensures { λ _. ⌜ SessionsAreSound ⌝ }
 {}
@@ -22,7 +22,7 @@ pub fn equal_sets_give_equal_sessions()
     ensures { λ _. ⌜ EqualSetsEqualSessions ⌝ }
 {}
 
-// Demand 2 over lists: what a stream sends are the standards' bytes, under the index that document 01 gives each packet.
+// Demand 2 over lists: the bytes that a stream sends are the standards', under the index that document 01 gives each packet.
 pub fn packets_are_sent_under_their_index()
     ensures { λ _. ⌜ SentUnderItsIndex ⌝ }
 {}
@@ -32,7 +32,7 @@ pub fn arrivals_follow_the_ledger()
     ensures { λ _. ⌜ ArrivalsFollowTheLedger ⌝ }
 {}
 
-// Demand 3: two neighbouring packet calls for different streams change places.
+// Demand 3: two neighbouring packet calls for different streams can change places.
 pub fn neighbours_change_places()
     ensures { λ _. ⌜ NeighboursChangePlaces ⌝ }
 {}

@@ -3,10 +3,10 @@ use crate::print;
 use crate::rfc3711::session_keys;
 use aes_cm::portion::xor_portion;
 use libc::STDOUT_FILENO;
-use rtp::find::find;
 use rtp::mask::mask;
+use srtp::find::find;
 
-pub fn listed() -> [bool; 256] {
+fn listed() -> [bool; 256] {
     let mut ids = [false; 256];
     ids[1] = true;
     ids[3] = true;

@@ -1,121 +1,87 @@
-// RFC 9335, appendix A.1, and two packets as libsrtp 2.5.0 sends them, one under the mask of RFC 6904: protected, and given back.
+// RFC 9335, appendix A.1, and two packets as libsrtp 2.5.0 sends them, one with the extension of RFC 6904's A.2 under the mask: protected and given back
+// by the public calls.
 use crate::print;
-use crate::rfc3711::session_keys;
-use crate::rfc6904::listed;
-use hmac::key::KeyStates;
-use hmac::key::key_states;
 use libc::STDOUT_FILENO;
-use packet::judge::added;
-use packet::judge::judge;
-use packet::keys::Keys;
-use packet::policy::Policy;
 use packet::policy::Way;
-use packet::protect::protect_packet;
-use packet::protect::unprotect_packet;
-use rtp::header::Header;
+use srtp::add::add;
+use srtp::make::make;
+use srtp::protect::protect;
+use srtp::session::Session;
+use srtp::unprotect::unprotect;
 
-fn states(key: [u8; 20]) -> KeyStates {
-    key_states(&key)
+// A session under the master key and salt of RFC 3711's B.3, with the ids 1, 3 and 4 and the stream cafebabe.
+fn session(policy: u64, way: Way) -> Session {
+    let key = *b"\xe1\xf9\x7a\x0d\x3e\x01\x8b\xe0\xd6\x4f\xa3\x2c\x06\xde\x41\x39";
+    let salt = *b"\x0e\xc6\x75\xad\x49\x8a\xfe\xeb\xb6\x96\x0b\x3a\xab\xe6";
+    let ids = [1u8, 3, 4];
+    let made = make(&key, &salt, policy, &ids);
+    let session = made.session;
+    let added = add(session, 0xcafebabe, way, 0);
+    added.session
 }
 
-fn keys() -> Keys {
-    let k = session_keys();
-    let cipher = k.cipher;
-    let salt = k.salt;
-    let header_cipher = k.header_cipher;
-    let header_salt = k.header_salt;
-    let key = k.auth;
-    let auth = states(key);
-    Keys {
-        cipher,
-        salt,
-        header_cipher,
-        header_salt,
-        auth,
-    }
-}
-
-// Unprotects the packet of n bytes in the buffer, SSRC cafebabe and rollover counter 0, and prints it.
-fn back(policy: Policy, seq: u16, buf: &mut [u8], n: usize) {
-    if buf.len() < n {
-        return;
-    }
-    let ids = listed();
-    let header = judge(&buf[0..n], Way::Receiving, policy, 10);
-    let Header::Read(h) = header else {
-        return;
-    };
-    if unprotect_packet(keys(), policy, &ids, 0xcafebabe, seq as u64, buf, n, h) {
-        print::bytes(b" back ", &buf[0..n - 10]);
+// The first bytes of a buffer; nothing after a refusal.
+fn line(name: &[u8], what: &[u8], buf: &[u8], length: usize) {
+    io::write_all(STDOUT_FILENO, name);
+    if length <= buf.len() {
+        print::bytes(what, &buf[0..length]);
     }
 }
 
 // Protects the packet of n bytes in the buffer and prints it, and then the way back.
-fn both_ways(name: &[u8], policy: Policy, seq: u16, buf: &mut [u8], n: usize) {
-    if buf.len() < n {
-        return;
-    }
-    io::write_all(STDOUT_FILENO, name);
-    let ids = listed();
-    let header = judge(&buf[0..n], Way::Sending, policy, 10);
-    let Header::Read(h) = header else {
-        return;
-    };
-    if buf.len() - n < added(Way::Sending, policy, h, 10) {
-        return;
-    }
-    let m = protect_packet(keys(), policy, &ids, 0xcafebabe, seq as u64, buf, n, h);
-    print::bytes(b" wire ", &buf[0..m]);
-    io::write_all(STDOUT_FILENO, name);
-    back(policy, seq, buf, m);
+fn both_ways(name: &[u8], policy: u64, buf: &mut [u8], n: usize) {
+    let sent = protect(session(policy, Way::Sending), buf, n);
+    line(name, b" wire ", buf, sent.length);
+    let got = unprotect(session(policy, Way::Receiving), buf, sent.length);
+    line(name, b" back ", buf, got.length);
 }
 
 fn a_1_1() {
     let mut buf =
         *b"\x90\x0f\x12\x35\xde\xca\xfb\xad\xca\xfe\xba\xbe\xbe\xde\x00\x01\x51\x00\x02\x00\xab\xab\xab\xab\xab\xab\xab\xab\xab\xab\xab\xab\xab\xab\xab\xab\x00\x00\x00\x00\x00\x00\x00\x00\x00\x00";
-    both_ways(b"cryptex A.1.1", Policy::Cryptex, 0x1235, &mut buf, 36);
+    both_ways(b"cryptex A.1.1", 1, &mut buf, 36);
 }
 
 fn a_1_2() {
     let mut buf =
         *b"\x90\x0f\x12\x36\xde\xca\xfb\xad\xca\xfe\xba\xbe\x10\x00\x00\x01\x05\x02\x00\x02\xab\xab\xab\xab\xab\xab\xab\xab\xab\xab\xab\xab\xab\xab\xab\xab\x00\x00\x00\x00\x00\x00\x00\x00\x00\x00";
-    both_ways(b"cryptex A.1.2", Policy::Cryptex, 0x1236, &mut buf, 36);
+    both_ways(b"cryptex A.1.2", 1, &mut buf, 36);
 }
 
 fn a_1_3() {
     let mut buf =
         *b"\x92\x0f\x12\x38\xde\xca\xfb\xad\xca\xfe\xba\xbe\x00\x01\xe2\x40\x00\x00\xb2\x6e\xbe\xde\x00\x01\x51\x00\x02\x00\xab\xab\xab\xab\xab\xab\xab\xab\xab\xab\xab\xab\xab\xab\xab\xab\x00\x00\x00\x00\x00\x00\x00\x00\x00\x00";
-    both_ways(b"cryptex A.1.3", Policy::Cryptex, 0x1238, &mut buf, 44);
+    both_ways(b"cryptex A.1.3", 1, &mut buf, 44);
 }
 
 fn a_1_4() {
     let mut buf =
         *b"\x92\x0f\x12\x39\xde\xca\xfb\xad\xca\xfe\xba\xbe\x00\x01\xe2\x40\x00\x00\xb2\x6e\x10\x00\x00\x01\x05\x02\x00\x02\xab\xab\xab\xab\xab\xab\xab\xab\xab\xab\xab\xab\xab\xab\xab\xab\x00\x00\x00\x00\x00\x00\x00\x00\x00\x00";
-    both_ways(b"cryptex A.1.4", Policy::Cryptex, 0x1239, &mut buf, 44);
+    both_ways(b"cryptex A.1.4", 1, &mut buf, 44);
 }
 
 fn a_1_5() {
     let mut buf =
         *b"\x92\x0f\x12\x3a\xde\xca\xfb\xad\xca\xfe\xba\xbe\x00\x01\xe2\x40\x00\x00\xb2\x6e\xbe\xde\x00\x00\xab\xab\xab\xab\xab\xab\xab\xab\xab\xab\xab\xab\xab\xab\xab\xab\x00\x00\x00\x00\x00\x00\x00\x00\x00\x00";
-    both_ways(b"cryptex A.1.5", Policy::Cryptex, 0x123a, &mut buf, 40);
+    both_ways(b"cryptex A.1.5", 1, &mut buf, 40);
 }
 
 fn a_1_6() {
     let mut buf =
         *b"\x92\x0f\x12\x3b\xde\xca\xfb\xad\xca\xfe\xba\xbe\x00\x01\xe2\x40\x00\x00\xb2\x6e\x10\x00\x00\x00\xab\xab\xab\xab\xab\xab\xab\xab\xab\xab\xab\xab\xab\xab\xab\xab\x00\x00\x00\x00\x00\x00\x00\x00\x00\x00";
-    both_ways(b"cryptex A.1.6", Policy::Cryptex, 0x123b, &mut buf, 40);
+    both_ways(b"cryptex A.1.6", 1, &mut buf, 40);
 }
 
 fn plain() {
     let mut buf =
         *b"\x80\x0f\x12\x34\xde\xca\xfb\xad\xca\xfe\xba\xbe\xab\xab\xab\xab\xab\xab\xab\xab\xab\xab\xab\xab\xab\xab\xab\xab\x00\x00\x00\x00\x00\x00\x00\x00\x00\x00";
-    both_ways(b"policy 0", Policy::Plain, 0x1234, &mut buf, 28);
+    both_ways(b"policy 0", 0, &mut buf, 28);
 }
 
 fn masked() {
     let mut buf =
         *b"\x90\x0f\x12\x34\xde\xca\xfb\xad\xca\xfe\xba\xbe\xbe\xde\x00\x06\x17\x41\x42\x73\xa4\x75\x26\x27\x48\x22\x00\x00\xc8\x30\x8e\x46\x55\x99\x63\x86\xb3\x95\xfb\x00\xab\xab\xab\xab\xab\xab\xab\xab\xab\xab\xab\xab\xab\xab\xab\xab\x00\x00\x00\x00\x00\x00\x00\x00\x00\x00";
-    both_ways(b"policy 3", Policy::Mask, 0x1234, &mut buf, 56);
+    both_ways(b"policy 3", 3, &mut buf, 56);
 }
 
 pub fn run() {
