@@ -6,9 +6,9 @@ ghost use Rattle.replay.specs.Guess.{distanceOf};
 ghost use Rattle.replay.specs.Steps.{offsetOf};
 
 // The guessed index is `highest + up - down`. Two unsigned numbers, so that the index can be tested against 0 before it is made.
-pub(crate) struct Offset {
-    pub(crate) up: u32,
-    pub(crate) down: u32,
+pub struct Offset {
+    pub up: u32,
+    pub down: u32,
 }
 
 // The one place where unsigned numbers become a signed one.
@@ -20,7 +20,7 @@ pub(crate) fn difference(a: u32, b: u32) -> i32
 }
 
 // SEQ up and s down; 65,536 more down where the guess is R - 1, more up where it is R + 1.
-pub(crate) fn guess(highest: u64, sequence: u16) -> Offset
+pub fn guess(highest: u64, sequence: u16) -> Offset
     ensures { λ r. ⌜ r ≡ offsetOf highest sequence ⌝ }
 {
     let s = (highest % 65536) as u32;

@@ -29,7 +29,7 @@ fn kept(first: Found, element: Element, id: u8) -> Found
 }
 
 // The first element with an id. The walk goes on to the block's end, since an element that runs past it is refused wherever it stands.
-fn locate(block: &[u8], tag: u16, id: u8) -> Found
+pub fn locate(block: &[u8], tag: u16, id: u8) -> Found
     ensures { λ r. ⌜ r ≡ locatedOf tag (now (block .entry)) id ⌝ }
     ensures { λ r. ⌜ Inside (length (now (block .entry))) r ⌝ }
 {
