@@ -1,0 +1,114 @@
+//! `reference count`: runs a script and tells how often each kind of line was answered with each
+//! number, and which refusals of document 01 never came.
+
+use crate::lines;
+use crate::refusal::Refusal::{self, *};
+use crate::script::Desk;
+use std::collections::BTreeMap;
+use std::io::{self, BufRead, Write};
+
+/// The kinds of line in the table, with the refusals that document 01 lets each give.
+const KINDS: [(&str, &[Refusal]); 9] = [
+    ("make", &[Keys, Policy]),
+    ("add", &[Keys, Twice, Full]),
+    (
+        "protect",
+        &[Length, Short, Version, Header, Profile, Element, Large, Room, Stream, Order, Worn],
+    ),
+    (
+        "unprotect",
+        &[Length, Short, Version, Header, Profile, Element, Large, Stream, Worn, Old, Repeat, Tag],
+    ),
+    ("find", &[Short, Version, Header, Element, Absent]),
+    ("guess", &[Worn, Old, Repeat]),
+    ("mask", &[Element]),
+    ("state", &[]),
+    ("?", &[]),
+];
+
+/// How often each (kind, number) was answered.
+#[derive(Default)]
+pub struct Tally {
+    counts: BTreeMap<(String, u64), u64>,
+}
+
+impl Tally {
+    /// Counts one line and its answer. Unreadable lines are a kind of their own; `case` is no call.
+    pub fn note(&mut self, line: &[u8], answer: &[u8]) {
+        let kind = if answer == b"?" { b"?" } else { first_word(line) };
+        // For `state` the number is MADE, for `?` there is none and 0 stands in.
+        let number = String::from_utf8_lossy(first_word(answer)).parse().unwrap_or(0);
+        let kind = String::from_utf8_lossy(kind).into_owned();
+        if kind != "case" {
+            *self.counts.entry((kind, number)).or_default() += 1;
+        }
+    }
+
+    fn count(&self, kind: &str, number: u64) -> u64 {
+        self.counts.get(&(kind.to_string(), number)).copied().unwrap_or(0)
+    }
+
+    fn answers_of<'a>(&'a self, kind: &'a str) -> impl Iterator<Item = (u64, u64)> + 'a {
+        let of_kind = self.counts.iter().filter(move |((counted, _), _)| counted == kind);
+        of_kind.map(|((_, number), count)| (*number, *count))
+    }
+
+    /// The refusals a kind of line can give and never gave.
+    pub fn absent(&self) -> Vec<(&'static str, Refusal)> {
+        let mut absent = Vec::new();
+        for (kind, refusals) in KINDS {
+            for refusal in refusals {
+                if self.count(kind, refusal.number()) == 0 {
+                    absent.push((kind, *refusal));
+                }
+            }
+        }
+        absent
+    }
+
+    pub fn write(&self, output: &mut impl Write) -> io::Result<()> {
+        for (kind, refusals) in KINDS {
+            let total: u64 = self.answers_of(kind).map(|(_, count)| count).sum();
+            writeln!(output, "{kind:<10} {total:>9}")?;
+            for (number, count) in self.answers_of(kind) {
+                let name = answer_name(kind, number, refusals);
+                writeln!(output, "  {number:>2} {name:<10} {count:>6}")?;
+            }
+        }
+        for (kind, refusal) in self.absent() {
+            writeln!(output, "absent: {kind} {} {}", refusal.number(), refusal.name())?;
+        }
+        Ok(())
+    }
+}
+
+fn first_word(line: &[u8]) -> &[u8] {
+    line.split(|byte| *byte == b' ').next().unwrap_or(b"")
+}
+
+fn answer_name(kind: &str, number: u64, refusals: &[Refusal]) -> &'static str {
+    match (kind, number) {
+        ("?", _) => "unreadable",
+        ("state", 0) => "unmade",
+        ("state", _) => "made",
+        (_, 0) => "result",
+        _ => {
+            let refusal = refusals.iter().find(|refusal| refusal.number() == number);
+            refusal.map_or("UNEXPECTED", |refusal| refusal.name())
+        }
+    }
+}
+
+/// Runs the script, writes the table and tells whether every refusal came.
+pub fn run(input: &mut impl BufRead, output: &mut impl Write) -> io::Result<bool> {
+    let mut desk = Desk::default();
+    let mut tally = Tally::default();
+    while let Some(line) = lines::next(input)? {
+        if let Some(answer) = desk.answer(&line) {
+            tally.note(&line, &answer);
+        }
+    }
+    tally.write(output)?;
+    output.flush()?;
+    Ok(tally.absent().is_empty())
+}

@@ -1,0 +1,57 @@
+//! `reference random SEED COUNT`: random call scripts, as a list of scenes between `case` lines.
+//! The calls are run while they are written, so that real protected packets can arrive later.
+
+pub mod craft;
+pub mod dice;
+pub mod ends;
+pub mod limits;
+pub mod single;
+pub mod spoil;
+pub mod stage;
+pub mod talk;
+
+use stage::Stage;
+use std::io::{self, Write};
+
+type Scene = fn(&mut Stage) -> Option<()>;
+
+/// The scenes, each with how often it comes relative to the others.
+const SCENES: [(&str, u64, Scene); 13] = [
+    ("talk", 6, talk::talk),
+    ("window", 3, talk::window),
+    ("late", 1, talk::late),
+    ("far", 3, talk::far),
+    ("last", 4, talk::last),
+    ("cross", 4, talk::cross),
+    ("sizes", 2, limits::sizes),
+    ("room", 2, limits::room),
+    ("brink", 3, limits::brink),
+    ("full", 1, limits::full),
+    ("keys", 2, single::keys),
+    ("hostile", 4, single::hostile),
+    ("single", 5, single::single),
+];
+
+fn pick_scene(stage: &mut Stage) -> (&'static str, Scene) {
+    let total = SCENES.iter().map(|(_, weight, _)| weight).sum();
+    let mut rest = stage.dice.below(total);
+    for (name, weight, scene) in SCENES {
+        if rest < weight {
+            return (name, scene);
+        }
+        rest -= weight;
+    }
+    ("talk", talk::talk)
+}
+
+/// Writes a script of `count` calls.
+pub fn run(seed: u64, count: u64, output: &mut dyn Write) -> io::Result<()> {
+    let mut stage = Stage::new(seed, count, output);
+    while stage.is_open() {
+        let (name, scene) = pick_scene(&mut stage);
+        stage.case(name);
+        // A scene ends early where the calls are used up or the output fails.
+        let _ = scene(&mut stage);
+    }
+    stage.finish()
+}
