@@ -1,0 +1,30 @@
+//! Protects and unprotects the packet of RFC 9335's appendix A.1.1, and prints what changed.
+
+use delugash::{Error, Policy, Session, Way};
+
+fn show(name: &str, bytes: &[u8], beside: &[u8]) {
+    let text: Vec<String> = bytes.iter().map(|b| format!("{b:02x}")).collect();
+    let changed: Vec<&str> =
+        bytes.iter().zip(beside).map(|(a, b)| if a == b { "  " } else { "^^" }).collect();
+    println!("{name:10} {}", text.join(" "));
+    println!("{:10} {}", "", changed.join(" ").trim_end());
+}
+
+fn main() -> Result<(), Error> {
+    let key = *b"\xe1\xf9\x7a\x0d\x3e\x01\x8b\xe0\xd6\x4f\xa3\x2c\x06\xde\x41\x39";
+    let salt = *b"\x0e\xc6\x75\xad\x49\x8a\xfe\xeb\xb6\x96\x0b\x3a\xab\xe6";
+    let mut sender = Session::new(&key, &salt, Policy::Cryptex, &[])?;
+    let mut receiver = Session::new(&key, &salt, Policy::Cryptex, &[])?;
+    sender.add(0xcafebabe, Way::Sending, 0)?;
+    receiver.add(0xcafebabe, Way::Receiving, 0)?;
+
+    let packet = *b"\x90\x0f\x12\x35\xde\xca\xfb\xad\xca\xfe\xba\xbe\xbe\xde\0\x01\x51\0\x02\0\xab\xab\xab\xab\xab\xab\xab\xab\xab\xab\xab\xab\xab\xab\xab\xab";
+    let mut buf = [0u8; 36 + delugash::ROOM];
+    buf[..36].copy_from_slice(&packet);
+    show("packet", &packet, &packet);
+    let sent = sender.protect(&mut buf, 36)?;
+    show("protected", &buf[..sent], &packet);
+    let length = receiver.unprotect(&mut buf, sent)?;
+    show("given back", &buf[..length], &packet);
+    Ok(())
+}

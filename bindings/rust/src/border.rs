@@ -1,0 +1,47 @@
+//! The functions of `libdelugash.a`. A slice crosses as a pointer and a length; nothing else is required of a caller.
+
+#[repr(C)]
+#[derive(Clone, Copy)]
+pub struct Answer {
+    pub number: u32,
+    pub length: usize,
+}
+
+#[repr(C)]
+#[derive(Clone, Copy)]
+pub struct Part {
+    pub number: u32,
+    pub begin: usize,
+    pub length: usize,
+}
+
+extern "C" {
+    pub fn delugash_size() -> usize;
+    pub fn delugash_make(
+        session: *mut u64,
+        words: usize,
+        key: *const u8,
+        key_length: usize,
+        salt: *const u8,
+        salt_length: usize,
+        policy: u64,
+        ids: *const u8,
+        ids_length: usize,
+    ) -> u32;
+    pub fn delugash_add(session: *mut u64, words: usize, ssrc: u32, way: u32, rollover: u32) -> u32;
+    pub fn delugash_protect(
+        session: *mut u64,
+        words: usize,
+        buf: *mut u8,
+        length: usize,
+        n: usize,
+    ) -> Answer;
+    pub fn delugash_unprotect(
+        session: *mut u64,
+        words: usize,
+        buf: *mut u8,
+        length: usize,
+        n: usize,
+    ) -> Answer;
+    pub fn delugash_find(packet: *const u8, length: usize, id: u32) -> Part;
+}

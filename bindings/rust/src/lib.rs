@@ -1,0 +1,132 @@
+//! SRTP that is proved right, for Rust: plain SRTP (RFC 3711), Cryptex (RFC 9335) and encrypted header extension elements (RFC 6904), in the
+//! suite AES_CM_128_HMAC_SHA1_80.
+//!
+//! A [`Session`] has a key and a policy, and up to 32 streams, each sent or received. Packets are protected and unprotected in the
+//! caller's buffer. A call gives its result or an [`Error`], and an error leaves buffer and session exactly as they were.
+//!
+//! ```
+//! use delugash::{Policy, Session, Way};
+//!
+//! let (key, salt) = ([7u8; 16], [9u8; 14]);
+//! let mut sender = Session::new(&key, &salt, Policy::Cryptex, &[])?;
+//! let mut receiver = Session::new(&key, &salt, Policy::Cryptex, &[])?;
+//! sender.add(0xcafebabe, Way::Sending, 0)?;
+//! receiver.add(0xcafebabe, Way::Receiving, 0)?;
+//!
+//! // a packet of 20 bytes, in a buffer with room for what protecting adds
+//! let packet = *b"\x80\x60\x00\x01\0\0\0\0\xca\xfe\xba\xbepayload!";
+//! let mut buf = [0u8; 20 + delugash::ROOM];
+//! buf[..20].copy_from_slice(&packet);
+//!
+//! let sent = sender.protect(&mut buf, 20)?;
+//! let given_back = receiver.unprotect(&mut buf, sent)?;
+//! assert_eq!(buf[..given_back], packet);
+//! assert_eq!(receiver.unprotect(&mut buf, sent), Err(delugash::Error::Repeat));
+//! # Ok::<(), delugash::Error>(())
+//! ```
+
+mod border;
+mod error;
+
+pub use error::Error;
+
+/// The most that protecting adds to a packet: a tag of ten bytes, and four where Cryptex adds an empty extension block.
+pub const ROOM: usize = 14;
+
+/// How a session treats header extensions.
+#[derive(Clone, Copy, Debug, PartialEq, Eq, Hash)]
+pub enum Policy {
+    /// Plain SRTP: extensions and contributors are sent in clear.
+    Plain = 0,
+    /// Cryptex: extension and contributors are encrypted. Plain packets are taken too.
+    Cryptex = 1,
+    /// Cryptex, and of packets with an extension none but Cryptex ones are taken.
+    CryptexRequired = 2,
+    /// The elements with the session's ids are encrypted under the mask of RFC 6904.
+    Mask = 3,
+}
+
+/// What a stream of a session is for.
+#[derive(Clone, Copy, Debug, PartialEq, Eq, Hash)]
+pub enum Way {
+    Sending = 0,
+    Receiving = 1,
+}
+
+/// A session: keys, a policy, and its streams. It can be moved, cloned, and sent to another thread.
+#[derive(Clone)]
+pub struct Session {
+    words: Vec<u64>,
+}
+
+impl Session {
+    /// A session without streams. `ids` are the elements that [`Policy::Mask`] hides; zeros and repeats are ignored.
+    pub fn new(key: &[u8], salt: &[u8], policy: Policy, ids: &[u8]) -> Result<Session, Error> {
+        // SAFETY: no arguments.
+        let mut words = vec![0u64; unsafe { border::delugash_size() }];
+        // SAFETY: each pointer comes with the length of its slice, and no two of them overlap, since `words` is this function's own.
+        let number = unsafe {
+            border::delugash_make(
+                words.as_mut_ptr(),
+                words.len(),
+                key.as_ptr(),
+                key.len(),
+                salt.as_ptr(),
+                salt.len(),
+                policy as u64,
+                ids.as_ptr(),
+                ids.len(),
+            )
+        };
+        Error::check(number).map(|()| Session { words })
+    }
+
+    /// Adds a stream. Its first packet has the index `rollover * 65,536 + sequence number`.
+    pub fn add(&mut self, ssrc: u32, way: Way, rollover: u32) -> Result<(), Error> {
+        // SAFETY: the pointer comes with its length.
+        let number = unsafe {
+            border::delugash_add(self.words.as_mut_ptr(), self.words.len(), ssrc, way as u32, rollover)
+        };
+        Error::check(number)
+    }
+
+    /// The packet in the first `n` bytes of the buffer becomes the protected one, whose length is given back; the bytes after it stay.
+    pub fn protect(&mut self, buf: &mut [u8], n: usize) -> Result<usize, Error> {
+        // SAFETY: each pointer comes with its length; both are borrowed alone, so they do not overlap.
+        let answer = unsafe {
+            border::delugash_protect(
+                self.words.as_mut_ptr(),
+                self.words.len(),
+                buf.as_mut_ptr(),
+                buf.len(),
+                n,
+            )
+        };
+        Error::check(answer.number).map(|()| answer.length)
+    }
+
+    /// The protected packet in the first `n` bytes of the buffer becomes the packet that was protected, whose length is given back; the tag
+    /// and the bytes after it stay. Where Cryptex added an empty extension block, it comes back too, with its X bit.
+    pub fn unprotect(&mut self, buf: &mut [u8], n: usize) -> Result<usize, Error> {
+        // SAFETY: as in `protect`.
+        let answer = unsafe {
+            border::delugash_unprotect(
+                self.words.as_mut_ptr(),
+                self.words.len(),
+                buf.as_mut_ptr(),
+                buf.len(),
+                n,
+            )
+        };
+        Error::check(answer.number).map(|()| answer.length)
+    }
+}
+
+/// The data of the first element with this id in a plain packet's header extension. An empty element is found as an empty slice.
+pub fn find(packet: &[u8], id: u8) -> Result<&[u8], Error> {
+    // SAFETY: the pointer comes with its length.
+    let part = unsafe { border::delugash_find(packet.as_ptr(), packet.len(), id as u32) };
+    Error::check(part.number)?;
+    let end = part.begin.saturating_add(part.length);
+    packet.get(part.begin..end).ok_or(Error::Absent)
+}

@@ -1,0 +1,155 @@
+//! Published packets both ways, each refusal that a safe call can meet, and what a refusal leaves.
+
+use delugash::{find, Error, Policy, Session, Way};
+
+/// The master key and salt of RFC 3711's B.3, which RFC 9335's appendix takes.
+const KEY: [u8; 16] = *b"\xe1\xf9\x7a\x0d\x3e\x01\x8b\xe0\xd6\x4f\xa3\x2c\x06\xde\x41\x39";
+const SALT: [u8; 14] = *b"\x0e\xc6\x75\xad\x49\x8a\xfe\xeb\xb6\x96\x0b\x3a\xab\xe6";
+const SSRC: u32 = 0xcafebabe;
+
+fn session(policy: Policy, way: Way) -> Session {
+    let mut made = Session::new(&KEY, &SALT, policy, &[1, 3, 4]).expect("a session");
+    made.add(SSRC, way, 0).expect("a stream");
+    made
+}
+
+fn hex(text: &str) -> Vec<u8> {
+    (0..text.len() / 2).map(|i| u8::from_str_radix(&text[2 * i..2 * i + 2], 16).expect("hex")).collect()
+}
+
+/// Policy, packet, and the protected packet as published (RFC 9335, A.1).
+const PUBLISHED: [(Policy, &str, &str); 6] = [
+    (
+        Policy::Cryptex,
+        "900f1235decafbadcafebabebede000151000200abababababababababababababababab",
+        "900f1235decafbadcafebabec0de0001eb92365251c3e036f8de27e9c27ee3e0b4651d9fbc4218a70244522f34a5",
+    ),
+    (
+        Policy::Cryptex,
+        "900f1236decafbadcafebabe1000000105020002abababababababababababababababab",
+        "900f1236decafbadcafebabec2de00014ed9cc4e6a712b3096c5ca77339d4204ce0d77396cab69585fbce38194a5",
+    ),
+    (
+        Policy::Cryptex,
+        "920f1238decafbadcafebabe0001e2400000b26ebede000151000200abababababababababababababababab",
+        "920f1238decafbadcafebabe8bb6e12b5cff16ddc0de000192838c8c09e58393e1de3a9a74734d6745671338c3acf11da2df8423bee0",
+    ),
+    (
+        Policy::Cryptex,
+        "920f1239decafbadcafebabe0001e2400000b26e1000000105020002abababababababababababababababab",
+        "920f1239decafbadcafebabef70e513eb90b9b25c2de0001bbed4848faa644665f3d7f34125914e9f4d0ae923c6f479b95a0f7b53133",
+    ),
+    (
+        Policy::Cryptex,
+        "920f123adecafbadcafebabe0001e2400000b26ebede0000abababababababababababababababab",
+        "920f123adecafbadcafebabe7130b6abfe2ab0e3c0de0000e3d9f64b25c9e74cb4cf8e43fb92e3781c2c0ceab6b3a499a14c",
+    ),
+    (
+        Policy::Cryptex,
+        "920f123bdecafbadcafebabe0001e2400000b26e10000000abababababababababababababababab",
+        "920f123bdecafbadcafebabecbf24c124330e1c8c2de0000599dd45bc9d687b603e8b59d771fd38e88b170e0cd31e125eabe",
+    ),
+];
+
+#[test]
+fn published_packets_both_ways() {
+    for (policy, plain, wire) in PUBLISHED {
+        let (plain, wire) = (hex(plain), hex(wire));
+        let mut buf = plain.clone();
+        buf.resize(plain.len() + delugash::ROOM, 0x55);
+        let sent = session(policy, Way::Sending).protect(&mut buf, plain.len()).expect("protected");
+        assert_eq!(buf[..sent], wire);
+        assert!(buf[sent..].iter().all(|b| *b == 0x55), "the bytes after the packet stay");
+        let length = session(policy, Way::Receiving).unprotect(&mut buf, sent).expect("given back");
+        assert_eq!(buf[..length], plain);
+        assert_eq!(buf[length..sent], wire[length..], "the tag stays");
+    }
+}
+
+#[test]
+fn a_packet_is_given_back_once() {
+    let (_, _, wire) = PUBLISHED[0];
+    let mut receiver = session(Policy::Cryptex, Way::Receiving);
+    let wire = hex(wire);
+    let mut buf = wire.clone();
+    buf[20] ^= 1;
+    let forged = buf.clone();
+    assert_eq!(receiver.unprotect(&mut buf, wire.len()), Err(Error::Tag));
+    assert_eq!(buf, forged, "a refusal leaves the buffer");
+    buf.copy_from_slice(&wire);
+    assert_eq!(receiver.unprotect(&mut buf, wire.len()), Ok(36));
+    buf.copy_from_slice(&wire);
+    assert_eq!(receiver.unprotect(&mut buf, wire.len()), Err(Error::Repeat));
+    assert_eq!(buf, wire);
+}
+
+#[test]
+fn refusals_of_making_and_adding() {
+    let refused = |key: &[u8], salt: &[u8]| Session::new(key, salt, Policy::Plain, &[]).err();
+    assert_eq!(refused(&KEY[..15], &SALT), Some(Error::Keys));
+    assert_eq!(refused(&KEY, &SALT[..13]), Some(Error::Keys));
+    assert_eq!(refused(&[], &[]), Some(Error::Keys));
+    let mut made = session(Policy::Plain, Way::Sending);
+    assert_eq!(made.add(SSRC, Way::Receiving, 0), Err(Error::Twice));
+    for ssrc in 0..31 {
+        assert_eq!(made.add(ssrc, Way::Receiving, ssrc), Ok(()));
+    }
+    assert_eq!(made.add(31, Way::Sending, 0), Err(Error::Full));
+}
+
+#[test]
+fn refusals_of_packets() {
+    let mut sender = session(Policy::Plain, Way::Sending);
+    let packet = hex("800f1234decafbadcafebabeabab");
+    let mut buf = packet.clone();
+    buf.resize(24, 0);
+    assert_eq!(sender.protect(&mut buf, 25), Err(Error::Length));
+    assert_eq!(sender.protect(&mut buf, usize::MAX), Err(Error::Length));
+    assert_eq!(sender.protect(&mut buf, 11), Err(Error::Short));
+    assert_eq!(sender.protect(&mut [], 0), Err(Error::Short));
+    assert_eq!(sender.protect(&mut buf[..23], 14), Err(Error::Room));
+    let mut other = buf.clone();
+    other[11] = 0;
+    assert_eq!(sender.protect(&mut other, 14), Err(Error::Stream));
+    other[0] = 0x40;
+    assert_eq!(sender.protect(&mut other, 14), Err(Error::Version));
+    assert_eq!(sender.protect(&mut buf, 14), Ok(24));
+    buf[..14].copy_from_slice(&packet);
+    assert_eq!(sender.protect(&mut buf, 14), Err(Error::Order));
+    let mut large = vec![0u8; 4096];
+    large[..12].copy_from_slice(&packet[..12]);
+    assert_eq!(sender.protect(&mut large, 2039), Err(Error::Large));
+}
+
+#[test]
+fn elements_are_parts_of_the_packet() {
+    let packet = hex("900f1234decafbadcafebabebede000617414273a475262748220000c8308e4655996386b395fb00");
+    let part = find(&packet, 1).expect("element 1");
+    assert_eq!(part, hex("414273a475262748"));
+    assert_eq!(part.as_ptr(), packet[17..].as_ptr(), "a slice of the caller's packet, not a copy");
+    assert_eq!(find(&packet, 2), Ok(&hex("0000c8")[..]));
+    assert_eq!(find(&packet, 5), Err(Error::Absent));
+    assert_eq!(find(&packet[..11], 1), Err(Error::Short));
+}
+
+#[test]
+fn numbers_are_document_01s() {
+    assert_eq!(Error::Length.number(), 1);
+    assert_eq!(Error::Tag.number(), 14);
+    assert_eq!(Error::Absent.number(), 19);
+    assert_eq!(Error::Repeat.to_string(), "refused with 13 (Repeat)");
+}
+
+#[test]
+fn clones_and_threads() {
+    let mut sender = session(Policy::Plain, Way::Sending);
+    let mut copy = sender.clone();
+    let packet = hex("800f1234decafbadcafebabeabab00000000000000000000");
+    let mut first = packet.clone();
+    let sent = sender.protect(&mut first, 14).expect("protected");
+    let second = std::thread::spawn(move || {
+        let mut buf = packet;
+        copy.protect(&mut buf, 14).map(|n| buf[..n].to_vec())
+    });
+    assert_eq!(second.join().expect("no panic").expect("protected"), first[..sent]);
+}

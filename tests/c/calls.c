@@ -1,0 +1,202 @@
+/* The C interface: published packets both ways, refusals, wrong memory, and memory that holds anything. */
+#include "delugash.h"
+
+#include <stdint.h>
+#include <stdio.h>
+#include <stdlib.h>
+#include <string.h>
+
+static unsigned passed, failed;
+
+static void check(int holds, const char *what, int line)
+{
+    if (holds) {
+        passed++;
+    } else {
+        failed++;
+        fprintf(stderr, "line %d: %s\n", line, what);
+    }
+}
+
+#define CHECK(fact) check((fact), #fact, __LINE__)
+
+/* The master key and salt of RFC 3711's B.3, which RFC 9335's appendix takes. */
+static const uint8_t key[16] = {0xe1, 0xf9, 0x7a, 0x0d, 0x3e, 0x01, 0x8b, 0xe0, 0xd6, 0x4f, 0xa3, 0x2c, 0x06, 0xde, 0x41, 0x39};
+static const uint8_t salt[14] = {0x0e, 0xc6, 0x75, 0xad, 0x49, 0x8a, 0xfe, 0xeb, 0xb6, 0x96, 0x0b, 0x3a, 0xab, 0xe6};
+
+/* RFC 9335, A.1.1: the packet, and what is sent. */
+static const uint8_t plain[36] = "\x90\x0f\x12\x35\xde\xca\xfb\xad\xca\xfe\xba\xbe\xbe\xde\x00\x01\x51\x00\x02\x00"
+                                 "\xab\xab\xab\xab\xab\xab\xab\xab\xab\xab\xab\xab\xab\xab\xab\xab";
+static const uint8_t wire[46] = "\x90\x0f\x12\x35\xde\xca\xfb\xad\xca\xfe\xba\xbe\xc0\xde\x00\x01\xeb\x92\x36\x52"
+                                "\x51\xc3\xe0\x36\xf8\xde\x27\xe9\xc2\x7e\xe3\xe0\xb4\x65\x1d\x9f\xbc\x42\x18\xa7"
+                                "\x02\x44\x52\x2f\x34\xa5";
+
+/* Session memory of exactly the size asked for, so that a tool can see a step beyond it. */
+static uint64_t *memory(void)
+{
+    uint64_t *words = calloc(delugash_size(), sizeof *words);
+    if (words == NULL)
+        exit(2);
+    return words;
+}
+
+static uint64_t *session(uint64_t policy, uint32_t way)
+{
+    uint64_t *s = memory();
+    CHECK(delugash_make(s, delugash_size(), key, sizeof key, salt, sizeof salt, policy, NULL, 0) == DELUGASH_OK);
+    CHECK(delugash_add(s, delugash_size(), 0xcafebabe, way, 0) == DELUGASH_OK);
+    return s;
+}
+
+static void published_packet_both_ways(void)
+{
+    uint64_t *sender = session(1, DELUGASH_SENDING), *receiver = session(1, DELUGASH_RECEIVING);
+    uint8_t buf[60];
+    memset(buf, 0x55, sizeof buf);
+    memcpy(buf, plain, sizeof plain);
+    delugash_answer a = delugash_protect(sender, delugash_size(), buf, sizeof buf, sizeof plain);
+    CHECK(a.number == DELUGASH_OK && a.length == sizeof wire);
+    CHECK(memcmp(buf, wire, sizeof wire) == 0);
+    CHECK(buf[46] == 0x55 && buf[59] == 0x55);
+    a = delugash_unprotect(receiver, delugash_size(), buf, sizeof buf, sizeof wire);
+    CHECK(a.number == DELUGASH_OK && a.length == sizeof plain);
+    CHECK(memcmp(buf, plain, sizeof plain) == 0 && memcmp(buf + 36, wire + 36, 10) == 0);
+    memcpy(buf, wire, sizeof wire);
+    a = delugash_unprotect(receiver, delugash_size(), buf, sizeof buf, sizeof wire);
+    CHECK(a.number == DELUGASH_REPEAT && a.length == 0);
+    CHECK(memcmp(buf, wire, sizeof wire) == 0);
+    free(sender);
+    free(receiver);
+}
+
+/* Session memory can be moved: a copy goes on where the other stood. */
+static void memory_moves(void)
+{
+    uint64_t *receiver = session(1, DELUGASH_RECEIVING), *moved = memory();
+    memcpy(moved, receiver, delugash_size() * sizeof *moved);
+    free(receiver);
+    uint8_t buf[46];
+    memcpy(buf, wire, sizeof wire);
+    CHECK(delugash_unprotect(moved, delugash_size(), buf, sizeof buf, sizeof wire).number == DELUGASH_OK);
+    free(moved);
+}
+
+static void refusals_leave_everything(void)
+{
+    uint64_t *s = session(1, DELUGASH_RECEIVING), *before = memory();
+    memcpy(before, s, delugash_size() * sizeof *s);
+    uint8_t buf[46], forged[46];
+    memcpy(forged, wire, sizeof wire);
+    forged[30] ^= 0x80;
+    memcpy(buf, forged, sizeof buf);
+    CHECK(delugash_unprotect(s, delugash_size(), buf, sizeof buf, sizeof buf).number == DELUGASH_TAG);
+    CHECK(delugash_unprotect(s, delugash_size(), buf, sizeof buf, 47).number == DELUGASH_LENGTH);
+    CHECK(delugash_unprotect(s, delugash_size(), buf, sizeof buf, SIZE_MAX).number == DELUGASH_LENGTH);
+    CHECK(delugash_unprotect(s, delugash_size(), buf, sizeof buf, 21).number == DELUGASH_SHORT);
+    CHECK(delugash_protect(s, delugash_size(), buf, sizeof buf, 36).number == DELUGASH_PROFILE);
+    CHECK(delugash_add(s, delugash_size(), 0xcafebabe, DELUGASH_SENDING, 0) == DELUGASH_TWICE);
+    CHECK(delugash_add(s, delugash_size(), 1, 2, 0) == DELUGASH_WAY);
+    CHECK(memcmp(buf, forged, sizeof buf) == 0);
+    CHECK(memcmp(s, before, delugash_size() * sizeof *s) == 0);
+    free(s);
+    free(before);
+}
+
+static void wrong_memory(void)
+{
+    uint64_t *s = session(0, DELUGASH_SENDING), few[1] = {0};
+    uint8_t buf[46];
+    memcpy(buf, plain, sizeof plain);
+    CHECK(delugash_protect(s, delugash_size() - 1, buf, sizeof buf, 36).number == DELUGASH_MEMORY);
+    CHECK(delugash_unprotect(few, 1, buf, sizeof buf, 46).number == DELUGASH_MEMORY);
+    CHECK(delugash_add(few, 0, 1, DELUGASH_SENDING, 0) == DELUGASH_MEMORY);
+    CHECK(delugash_make(few, 1, key, sizeof key, salt, sizeof salt, 0, NULL, 0) == DELUGASH_MEMORY);
+    CHECK(few[0] == 0 && memcmp(buf, plain, sizeof plain) == 0);
+    free(s);
+}
+
+static void making(void)
+{
+    uint64_t *s = session(0, DELUGASH_SENDING);
+    CHECK(delugash_make(s, delugash_size(), key, 15, salt, sizeof salt, 0, NULL, 0) == DELUGASH_KEYS);
+    /* a refused making leaves the unmade session, which takes no stream */
+    CHECK(delugash_add(s, delugash_size(), 5, DELUGASH_SENDING, 0) == DELUGASH_KEYS);
+    CHECK(delugash_make(s, delugash_size(), key, sizeof key, salt, sizeof salt, 4, NULL, 0) == DELUGASH_POLICY);
+    CHECK(delugash_make(s, delugash_size(), key, sizeof key, salt, 13, 9, NULL, 0) == DELUGASH_KEYS);
+    CHECK(delugash_make(s, delugash_size(), key, sizeof key, salt, sizeof salt, 3, key, 16) == DELUGASH_OK);
+    for (uint32_t i = 0; i < 32; i++)
+        CHECK(delugash_add(s, delugash_size(), i, i % 2, i) == DELUGASH_OK);
+    CHECK(delugash_add(s, delugash_size(), 32, DELUGASH_SENDING, 0) == DELUGASH_FULL);
+    free(s);
+}
+
+static void finding(void)
+{
+    static const uint8_t packet[40] = "\x90\x0f\x12\x34\xde\xca\xfb\xad\xca\xfe\xba\xbe\xbe\xde\x00\x06\x17\x41\x42\x73"
+                                      "\xa4\x75\x26\x27\x48\x22\x00\x00\xc8\x30\x8e\x46\x55\x99\x63\x86\xb3\x95\xfb\x00";
+    delugash_part p = delugash_find(packet, sizeof packet, 2);
+    CHECK(p.number == DELUGASH_OK && p.begin == 26 && p.length == 3);
+    CHECK(delugash_find(packet, sizeof packet, 5).number == DELUGASH_ABSENT);
+    CHECK(delugash_find(packet, sizeof packet, 258).number == DELUGASH_ABSENT);
+    CHECK(delugash_find(packet, 11, 2).number == DELUGASH_SHORT);
+    CHECK(delugash_find(packet, 39, 2).number == DELUGASH_HEADER);
+}
+
+static uint64_t state = 1;
+
+static uint64_t next(void)
+{
+    uint64_t z = (state += 0x9e3779b97f4a7c15u);
+    z = (z ^ (z >> 30)) * 0xbf58476d1ce4e5b9u;
+    z = (z ^ (z >> 27)) * 0x94d049bb133111ebu;
+    return z ^ (z >> 31);
+}
+
+/* Memory with anything in it: calls answer a number of the list, and a refusal changes nothing. */
+static void any_memory(void)
+{
+    size_t words = delugash_size();
+    uint64_t *s = memory(), *before = memory();
+    for (int round = 0; round < 20000; round++) {
+        size_t length = next() % 80;
+        uint8_t *buf = malloc(length + 1), *copy = malloc(length + 1);
+        if (buf == NULL || copy == NULL)
+            exit(2);
+        for (size_t i = 0; i < words; i++)
+            s[i] = next();
+        if (round % 2)
+            s[0] = DELUGASH_MARK + next() % 4;
+        for (size_t i = 0; i < length; i++)
+            buf[i] = (uint8_t)next();
+        if (length > 0)
+            buf[0] = 0x80 | (buf[0] & 0x11);
+        memcpy(copy, buf, length);
+        memcpy(before, s, words * sizeof *s);
+        size_t n = next() % (length + 2);
+        delugash_answer a = round % 4 < 2 ? delugash_protect(s, words, buf, length, n) : delugash_unprotect(s, words, buf, length, n);
+        if (a.number > 14 || (a.number != 0 && (a.length != 0 || memcmp(s, before, words * sizeof *s) != 0 || memcmp(buf, copy, length) != 0)))
+            CHECK(!"a call on any memory");
+        uint32_t added = delugash_add(s, words, (uint32_t)next(), (uint32_t)(next() % 2), (uint32_t)next());
+        if (added != 0 && added != DELUGASH_KEYS && added != DELUGASH_TWICE && added != DELUGASH_FULL)
+            CHECK(!"an add on any memory");
+        free(buf);
+        free(copy);
+    }
+    CHECK(1);
+    free(s);
+    free(before);
+}
+
+int main(void)
+{
+    CHECK(delugash_size() == DELUGASH_SIZE);
+    published_packet_both_ways();
+    memory_moves();
+    refusals_leave_everything();
+    wrong_memory();
+    making();
+    finding();
+    any_memory();
+    printf("C interface: %u facts hold, %u do not\n", passed, failed);
+    return failed != 0;
+}
