@@ -43,7 +43,7 @@ static uint64_t *memory(void)
 static uint64_t *session(uint64_t policy, uint32_t way)
 {
     uint64_t *s = memory();
-    CHECK(delugash_make(s, delugash_size(), key, sizeof key, salt, sizeof salt, policy, NULL, 0) == DELUGASH_OK);
+    CHECK(delugash_make(s, delugash_size(), key, sizeof key, salt, sizeof salt, policy, key, 0) == DELUGASH_OK);
     CHECK(delugash_add(s, delugash_size(), 0xcafebabe, way, 0) == DELUGASH_OK);
     return s;
 }
@@ -110,7 +110,7 @@ static void wrong_memory(void)
     CHECK(delugash_protect(s, delugash_size() - 1, buf, sizeof buf, 36).number == DELUGASH_MEMORY);
     CHECK(delugash_unprotect(few, 1, buf, sizeof buf, 46).number == DELUGASH_MEMORY);
     CHECK(delugash_add(few, 0, 1, DELUGASH_SENDING, 0) == DELUGASH_MEMORY);
-    CHECK(delugash_make(few, 1, key, sizeof key, salt, sizeof salt, 0, NULL, 0) == DELUGASH_MEMORY);
+    CHECK(delugash_make(few, 1, key, sizeof key, salt, sizeof salt, 0, key, 0) == DELUGASH_MEMORY);
     CHECK(few[0] == 0 && memcmp(buf, plain, sizeof plain) == 0);
     free(s);
 }
@@ -118,11 +118,11 @@ static void wrong_memory(void)
 static void making(void)
 {
     uint64_t *s = session(0, DELUGASH_SENDING);
-    CHECK(delugash_make(s, delugash_size(), key, 15, salt, sizeof salt, 0, NULL, 0) == DELUGASH_KEYS);
+    CHECK(delugash_make(s, delugash_size(), key, 15, salt, sizeof salt, 0, key, 0) == DELUGASH_KEYS);
     /* a refused making leaves the unmade session, which takes no stream */
     CHECK(delugash_add(s, delugash_size(), 5, DELUGASH_SENDING, 0) == DELUGASH_KEYS);
-    CHECK(delugash_make(s, delugash_size(), key, sizeof key, salt, sizeof salt, 4, NULL, 0) == DELUGASH_POLICY);
-    CHECK(delugash_make(s, delugash_size(), key, sizeof key, salt, 13, 9, NULL, 0) == DELUGASH_KEYS);
+    CHECK(delugash_make(s, delugash_size(), key, sizeof key, salt, sizeof salt, 4, key, 0) == DELUGASH_POLICY);
+    CHECK(delugash_make(s, delugash_size(), key, sizeof key, salt, 13, 9, key, 0) == DELUGASH_KEYS);
     CHECK(delugash_make(s, delugash_size(), key, sizeof key, salt, sizeof salt, 3, key, 16) == DELUGASH_OK);
     for (uint32_t i = 0; i < 32; i++)
         CHECK(delugash_add(s, delugash_size(), i, i % 2, i) == DELUGASH_OK);
@@ -152,11 +152,11 @@ static uint64_t next(void)
     return z ^ (z >> 31);
 }
 
-/* Memory with anything in it: calls answer a number of the list, and a refusal changes nothing. */
+/* Memory with anything in it, half of it with the first word of a made session: calls answer a number of the list, and a refusal changes nothing. */
 static void any_memory(void)
 {
     size_t words = delugash_size();
-    uint64_t *s = memory(), *before = memory();
+    uint64_t *s = memory(), *before = memory(), *made = session(0, DELUGASH_SENDING);
     for (int round = 0; round < 20000; round++) {
         size_t length = next() % 80;
         uint8_t *buf = malloc(length + 1), *copy = malloc(length + 1);
@@ -165,7 +165,7 @@ static void any_memory(void)
         for (size_t i = 0; i < words; i++)
             s[i] = next();
         if (round % 2)
-            s[0] = DELUGASH_MARK + next() % 4;
+            s[0] = made[0] + next() % 4;
         for (size_t i = 0; i < length; i++)
             buf[i] = (uint8_t)next();
         if (length > 0)
@@ -185,11 +185,12 @@ static void any_memory(void)
     CHECK(1);
     free(s);
     free(before);
+    free(made);
 }
 
 int main(void)
 {
-    CHECK(delugash_size() == DELUGASH_SIZE);
+    CHECK(delugash_size() == DELUGASH_WORDS);
     published_packet_both_ways();
     memory_moves();
     refusals_leave_everything();

@@ -2,12 +2,19 @@
 
 use delugash::{Error, Policy, Session, Way};
 
+/// The bytes, and under them `^^` where one differs from the byte that stood there and `++` where none stood.
 fn show(name: &str, bytes: &[u8], beside: &[u8]) {
+    let mark = |i: usize| match beside.get(i) {
+        Some(b) if *b == bytes[i] => "  ",
+        Some(_) => "^^",
+        None => "++",
+    };
     let text: Vec<String> = bytes.iter().map(|b| format!("{b:02x}")).collect();
-    let changed: Vec<&str> =
-        bytes.iter().zip(beside).map(|(a, b)| if a == b { "  " } else { "^^" }).collect();
+    let marks: Vec<&str> = (0..bytes.len()).map(mark).collect();
     println!("{name:10} {}", text.join(" "));
-    println!("{:10} {}", "", changed.join(" ").trim_end());
+    if bytes != beside {
+        println!("{:10} {}", "", marks.join(" ").trim_end());
+    }
 }
 
 fn main() -> Result<(), Error> {

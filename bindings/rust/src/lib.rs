@@ -84,9 +84,8 @@ impl Session {
     /// Adds a stream. Its first packet has the index `rollover * 65,536 + sequence number`.
     pub fn add(&mut self, ssrc: u32, way: Way, rollover: u32) -> Result<(), Error> {
         // SAFETY: the pointer comes with its length.
-        let number = unsafe {
-            border::delugash_add(self.words.as_mut_ptr(), self.words.len(), ssrc, way as u32, rollover)
-        };
+        let number =
+            unsafe { border::delugash_add(self.words.as_mut_ptr(), self.words.len(), ssrc, way as u32, rollover) };
         Error::check(number)
     }
 

@@ -14,7 +14,9 @@ fn session(policy: Policy, way: Way) -> Session {
 }
 
 fn hex(text: &str) -> Vec<u8> {
-    (0..text.len() / 2).map(|i| u8::from_str_radix(&text[2 * i..2 * i + 2], 16).expect("hex")).collect()
+    (0..text.len() / 2)
+        .map(|i| u8::from_str_radix(&text[2 * i..2 * i + 2], 16).expect("hex"))
+        .collect()
 }
 
 /// Policy, packet, and the protected packet as published (RFC 9335, A.1).
@@ -57,10 +59,17 @@ fn published_packets_both_ways() {
         let (plain, wire) = (hex(plain), hex(wire));
         let mut buf = plain.clone();
         buf.resize(plain.len() + delugash::ROOM, 0x55);
-        let sent = session(policy, Way::Sending).protect(&mut buf, plain.len()).expect("protected");
+        let sent = session(policy, Way::Sending)
+            .protect(&mut buf, plain.len())
+            .expect("protected");
         assert_eq!(buf[..sent], wire);
-        assert!(buf[sent..].iter().all(|b| *b == 0x55), "the bytes after the packet stay");
-        let length = session(policy, Way::Receiving).unprotect(&mut buf, sent).expect("given back");
+        assert!(
+            buf[sent..].iter().all(|b| *b == 0x55),
+            "the bytes after the packet stay"
+        );
+        let length = session(policy, Way::Receiving)
+            .unprotect(&mut buf, sent)
+            .expect("given back");
         assert_eq!(buf[..length], plain);
         assert_eq!(buf[length..sent], wire[length..], "the tag stays");
     }
@@ -126,7 +135,11 @@ fn elements_are_parts_of_the_packet() {
     let packet = hex("900f1234decafbadcafebabebede000617414273a475262748220000c8308e4655996386b395fb00");
     let part = find(&packet, 1).expect("element 1");
     assert_eq!(part, hex("414273a475262748"));
-    assert_eq!(part.as_ptr(), packet[17..].as_ptr(), "a slice of the caller's packet, not a copy");
+    assert_eq!(
+        part.as_ptr(),
+        packet[17..].as_ptr(),
+        "a slice of the caller's packet, not a copy"
+    );
     assert_eq!(find(&packet, 2), Ok(&hex("0000c8")[..]));
     assert_eq!(find(&packet, 5), Err(Error::Absent));
     assert_eq!(find(&packet[..11], 1), Err(Error::Short));

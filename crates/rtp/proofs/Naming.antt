@@ -64,7 +64,7 @@ start-good : (id tag : ℕ) (t : Bool) → hasElements tag ≡ t → Good id (st
 start-good id tag true e = rw e tt
 start-good id tag false e = rw e tt
 
-located : (tag : ℕ) (block : List ℕ) (id : ℕ) → wholeOf tag block ≡ true → ((k : ℕ) → Other (twoByte tag) id (getD block k 0)) → locatedOf tag block id ≡ Absent
+pub located : (tag : ℕ) (block : List ℕ) (id : ℕ) → wholeOf tag block ≡ true → ((k : ℕ) → Other (twoByte tag) id (getD block k 0)) → locatedOf tag block id ≡ Absent
 unfolding locatedOf elementsOf
 located tag block id w h = rw w (none-named (twoByte tag) id (startOf tag) 0 block (start-good id tag (hasElements tag) refl) h)
 

@@ -56,7 +56,7 @@ fn flags(ids: &[u8]) -> [bool; 256]
     set
 }
 
-fn policy_of(policy: u64) -> Policy
+pub fn policy_of(policy: u64) -> Policy
     ensures { λ r. ⌜ r ≡ policyOf policy ⌝ }
 {
     if policy == 0 {

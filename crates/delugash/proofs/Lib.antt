@@ -1,0 +1,13 @@
+pub mod Bytes
+pub mod Flags
+pub mod Records
+pub mod Memory
+pub mod Listed
+pub mod RoundTrip
+pub mod Calls
+pub mod Adding
+pub mod Making
+pub mod Finding
+pub mod Shapes
+pub mod Decoding
+pub mod Memories

@@ -1,0 +1,58 @@
+-- A session that is written to memory and read back is the same.
+use mathlib.Core.Path.{_≡_}
+use mathlib.Core.Bool.{true}
+use mathlib.Core.List.{List}
+use Prim.Native.Nat.{ℕ, _^_, _<_}
+use lib.ListN.{length, getD}
+use Rattle.packet.specs.declared.keys.Keys.{Keys}
+use Rattle.replay.specs.declared.state.ReplayState.{ReplayState}
+use Rattle.srtp.specs.declared.session.Record.{Record}
+use Rattle.srtp.specs.declared.session.Setup.{Setup}
+use Rattle.srtp.specs.declared.session.Session.{Session}
+use Rattle.srtp.specs.Making.{unmade, sessionOf}
+use Rattle.theorems.specs.Lists.{Each}
+use Rattle.delugash.specs.Memory.{size, encode, decode}
+
+-- ---- the values that the code's types allow. Definitions speak of lists of numbers, so this has to be said.
+
+-- an array of n numbers below a bound
+pub record Array (n bound : ℕ) (l : List ℕ) : Type 0 where
+  pub long : length l ≡ n
+  pub small : (i : ℕ) → getD l i 0 < bound
+
+pub record KeysFit (k : Keys) : Type 0 where
+  pub cipher : Array 16 256 (k .cipher)
+  pub salt : Array 14 256 (k .salt)
+  pub header-cipher : Array 16 256 (k .«header_cipher»)
+  pub header-salt : Array 14 256 (k .«header_salt»)
+  pub inner : Array 5 (2 ^ 32) (k .auth .inner)
+  pub outer : Array 5 (2 ^ 32) (k .auth .outer)
+
+pub record SetupFits (s : Setup) : Type 0 where
+  pub key : Array 16 256 (s .key)
+  pub salt : Array 14 256 (s .salt)
+  pub ids : length (s .ids) ≡ 256
+  pub keys : KeysFit (s .keys)
+
+-- a ring of two blocks
+pub record ReplayFits (s : ReplayState) : Type 0 where
+  pub stamps : length (s .window .stamps) ≡ 2
+  pub bits : length (s .window .bits) ≡ 2
+
+pub record RecordFits (r : Record) : Type 0 where
+  pub ssrc : r .ssrc < 2 ^ 32
+  pub rollover : r .rollover < 2 ^ 32
+  pub replay : ReplayFits (r .replay)
+
+pub record Fits (s : Session) : Type 0 where
+  pub setup : SetupFits (s .setup)
+  pub places : length (s .records) ≡ 32
+  pub records : Each RecordFits (s .records)
+
+-- ---- the claim
+
+pub record SessionsLast : Type 0 where
+  pub made : (s : Session) → s .setup .made ≡ true → Fits s → decode (encode s) ≡ s
+  pub unmade : decode (encode (sessionOf unmade)) ≡ sessionOf unmade
+  -- and it fills the memory that is asked for
+  pub long : (s : Session) → Fits s → length (encode s) ≡ size

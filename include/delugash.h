@@ -1,0 +1,122 @@
+/* Delugash: SRTP that is proved right. Link with libdelugash.a (`rt staticlib delugash`).
+ *
+ * Plain SRTP (RFC 3711), Cryptex (RFC 9335) and encrypted header extension elements under a mask (RFC 6904). Suite AES_CM_128_HMAC_SHA1_80, key
+ * derivation rate 0, no MKI; no RTCP.
+ *
+ * For a programmer who has used libsrtp: there is no init, no allocation and no context of the library's own. A session is memory of yours,
+ * delugash_size() words of 64 bits. It may be static, on the stack or on the heap; it may be moved and copied with memcpy; nothing has to be freed
+ * (clear it when the keys should be gone). Streams are added one by one, up to 32, each for one SSRC and one way; there is no wildcard stream and no
+ * stream template. A packet is protected or unprotected in its buffer, as with srtp_protect and srtp_unprotect, and the buffer's size is passed too.
+ *
+ * What a call can rely on, and what it need not: any length, number, packet or session memory may be passed, also memory that was never made or was
+ * overwritten: it then counts as a session without streams, or as whatever session it happens to hold, and no call reads or writes outside what it
+ * was lent. A refusal changes nothing (a refused delugash_make leaves a session that takes no stream). The caller's duty is only this:
+ *   - a pointer is not NULL, also where its length is 0, and as much memory as its length says belongs to it;
+ *   - memory that a call may write (session, buf) overlaps no other memory of the same call;
+ *   - no two threads are in calls on the same session at the same time. Calls on different sessions share nothing.
+ *
+ *     uint64_t session[DELUGASH_WORDS];
+ *     if (delugash_make(session, DELUGASH_WORDS, key, 16, salt, 14, DELUGASH_CRYPTEX, key, 0) != DELUGASH_OK) ...
+ *     if (delugash_add(session, DELUGASH_WORDS, 0xcafebabe, DELUGASH_SENDING, 0) != DELUGASH_OK) ...
+ *     delugash_answer a = delugash_protect(session, DELUGASH_WORDS, buf, sizeof buf, n);
+ *     if (a.number == DELUGASH_OK)
+ *         send(socket, buf, a.length, 0);
+ *
+ * (An empty list of ids still has an address, here that of the key.) examples/c/a_1_1.c is a whole program.
+ */
+#ifndef DELUGASH_H
+#define DELUGASH_H
+
+#include <stddef.h>
+#include <stdint.h>
+
+#ifdef __cplusplus
+extern "C" {
+#endif
+
+/* The words of a session, for arrays; delugash_size() gives the same number. */
+#define DELUGASH_WORDS 283
+
+/* The largest protected packet, and what protecting adds to a packet: the tag, and under Cryptex at most a block of four bytes. */
+#define DELUGASH_MAX_PACKET 2048
+#define DELUGASH_MAX_GROWTH 14
+
+/* Policies. */
+enum {
+    DELUGASH_PLAIN = 0,            /* plain SRTP */
+    DELUGASH_CRYPTEX = 1,          /* sends Cryptex, takes Cryptex and plain */
+    DELUGASH_CRYPTEX_REQUIRED = 2, /* sends Cryptex; a header extension that arrives in the clear is refused */
+    DELUGASH_MASK = 3              /* encrypts the header extension elements whose ids are listed */
+};
+
+/* Ways of a stream. */
+enum {
+    DELUGASH_SENDING = 0,
+    DELUGASH_RECEIVING = 1
+};
+
+/* What calls give back. Where several apply: DELUGASH_MEMORY, then DELUGASH_WAY, then the smallest number. */
+enum {
+    DELUGASH_OK = 0,
+    DELUGASH_LENGTH = 1,    /* n is more than the buffer's length */
+    DELUGASH_SHORT = 2,     /* fewer than 12 bytes; unprotect: fewer than 22 */
+    DELUGASH_VERSION = 3,   /* not RTP version 2 */
+    DELUGASH_HEADER = 4,    /* contributors, extension header or block pass the packet's end (unprotect: the tag's start) */
+    DELUGASH_PROFILE = 5,   /* Cryptex: an extension that it cannot carry; required Cryptex: an extension in the clear */
+    DELUGASH_ELEMENT = 6,   /* an extension element runs past its block */
+    DELUGASH_LARGE = 7,     /* the protected packet is over 2,048 bytes */
+    DELUGASH_ROOM = 8,      /* the buffer is shorter than the protected packet */
+    DELUGASH_STREAM = 9,    /* no stream for this SSRC and this way */
+    DELUGASH_ORDER = 10,    /* protect: the sequence number does not go forward by 1 to 32,767 */
+    DELUGASH_WORN = 11,     /* the 48-bit packet index is used up: make a session with new keys */
+    DELUGASH_OLD = 12,      /* unprotect: 64 or more behind the highest packet accepted */
+    DELUGASH_REPEAT = 13,   /* unprotect: accepted before */
+    DELUGASH_TAG = 14,      /* unprotect: the authentication tag is wrong */
+    DELUGASH_KEYS = 15,     /* make: key not 16 bytes or salt not 14; add: the session is not made */
+    DELUGASH_POLICY = 16,   /* make: policy above 3 */
+    DELUGASH_TWICE = 17,    /* add: this SSRC is in the session already, either way */
+    DELUGASH_FULL = 18,     /* add: 32 streams already */
+    DELUGASH_ABSENT = 19,   /* find: no such element */
+    DELUGASH_MEMORY = 100,  /* the session's memory is not DELUGASH_WORDS words */
+    DELUGASH_WAY = 101      /* add: the way is neither sending nor receiving */
+};
+
+typedef struct {
+    uint32_t number; /* DELUGASH_OK or the number of a refusal */
+    size_t length;   /* the packet's new length; 0 with a refusal */
+} delugash_answer;
+
+typedef struct {
+    uint32_t number; /* DELUGASH_OK or the number of a refusal */
+    size_t begin;    /* where in the packet the element's data begins; 0 with a refusal */
+    size_t length;   /* how long it is, which may be 0 for an element that is there; 0 with a refusal */
+} delugash_part;
+
+/* The number of 64-bit words of a session. */
+size_t delugash_size(void);
+
+/* Makes a session in words[0 .. word_count) from a master key of 16 bytes, a master salt of 14, a policy, and the ids (1 to 255; a 0 is ignored) of
+ * the elements that DELUGASH_MASK encrypts. Gives DELUGASH_OK, _MEMORY, _KEYS or _POLICY. */
+uint32_t delugash_make(uint64_t *words, size_t word_count, const uint8_t *key, size_t key_length, const uint8_t *salt, size_t salt_length,
+    uint64_t policy, const uint8_t *ids, size_t id_count);
+
+/* Adds a stream, sending or receiving. Its first packet has the rollover counter `rollover`: 0 for a stream that starts with the session.
+ * Gives DELUGASH_OK, _MEMORY, _WAY, _KEYS, _TWICE or _FULL. */
+uint32_t delugash_add(uint64_t *words, size_t word_count, uint32_t ssrc, uint32_t way, uint32_t rollover);
+
+/* Protects the packet in buf[0 .. n) in its place. The buffer needs room for up to DELUGASH_MAX_GROWTH bytes more. On DELUGASH_OK the packet to send is
+ * buf[0 .. length), and the bytes after it are untouched. */
+delugash_answer delugash_protect(uint64_t *words, size_t word_count, uint8_t *buf, size_t buf_length, size_t n);
+
+/* Unprotects the packet in buf[0 .. n) in its place. On DELUGASH_OK the packet is buf[0 .. length), length being n - 10, and the bytes after it, the
+ * tag included, are untouched. */
+delugash_answer delugash_unprotect(uint64_t *words, size_t word_count, uint8_t *buf, size_t buf_length, size_t n);
+
+/* Finds the first header extension element with an id in a plain packet: not one that is still protected. Ids are 1 to 255; any other is absent. */
+delugash_part delugash_find(const uint8_t *packet, size_t length, uint32_t id);
+
+#ifdef __cplusplus
+}
+#endif
+
+#endif
