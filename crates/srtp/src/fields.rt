@@ -6,7 +6,7 @@ ghost use Prim.Native.Nat.{_≤_};
 ghost use lib.ListN.{length};
 ghost use Rattle.rtp.specs.Header.{seqOf, ssrcOf};
 
-pub fn sequence_number(packet: &[u8]) -> u16
+pub(crate) fn sequence_number(packet: &[u8]) -> u16
     requires { ⌜ 12 ≤ length (now packet) ⌝ }
     ensures { λ r. ⌜ r ≡ seqOf (now (packet .entry)) ⌝ }
 {

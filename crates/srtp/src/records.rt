@@ -65,7 +65,7 @@ fn is_for(r: Record, ssrc: u32, way: Way) -> bool
 }
 
 // A stream that has had no packet.
-pub fn fresh_record(ssrc: u32, way: Way, rollover: u32) -> Record
+pub(crate) fn fresh_record(ssrc: u32, way: Way, rollover: u32) -> Record
     ensures { λ r. ⌜ r ≡ freshRecord ssrc way rollover ⌝ }
 {
     let kind = kind_of(way);
@@ -79,7 +79,7 @@ pub fn fresh_record(ssrc: u32, way: Way, rollover: u32) -> Record
 }
 
 // The place of the record for this SSRC and this way.
-pub fn place_of(session: Session, ssrc: u32, way: Way) -> Place
+pub(crate) fn place_of(session: Session, ssrc: u32, way: Way) -> Place
     ensures { λ r. ⌜ r ≡ placeFrom 0 (session .records) ssrc way ⌝ }
     ensures { λ r. ⌜ Inside r ⌝ }
 {
@@ -95,7 +95,7 @@ pub fn place_of(session: Session, ssrc: u32, way: Way) -> Place
 }
 
 // The first free place.
-pub fn free_place(session: Session) -> Place
+pub(crate) fn free_place(session: Session) -> Place
     ensures { λ r. ⌜ r ≡ freeFrom 0 (session .records) ⌝ }
     ensures { λ r. ⌜ Inside r ⌝ }
 {
@@ -122,7 +122,7 @@ fn is_of(r: Record, ssrc: u32) -> bool
 }
 
 // This SSRC has a record, either way.
-pub fn has_ssrc(session: Session, ssrc: u32) -> bool
+pub(crate) fn has_ssrc(session: Session, ssrc: u32) -> bool
     ensures { λ r. ⌜ r ≡ hasSsrc (session .records) ssrc ⌝ }
 {
     let mut i: usize = 0;
@@ -137,7 +137,7 @@ pub fn has_ssrc(session: Session, ssrc: u32) -> bool
 }
 
 // The session with another replay state in the record at a place.
-pub fn store(session: Session, at: usize, state: ReplayState) -> Session
+pub(crate) fn store(session: Session, at: usize, state: ReplayState) -> Session
     requires { ⌜ at < 32 ⌝ }
     ensures { λ r. ⌜ r ≡ record { setup = session .setup; records = storeAt (session .records) at state } ⌝ }
 {
@@ -149,7 +149,7 @@ pub fn store(session: Session, at: usize, state: ReplayState) -> Session
 }
 
 // The session with a record at a place.
-pub fn put(session: Session, at: usize, new: Record) -> Session
+pub(crate) fn put(session: Session, at: usize, new: Record) -> Session
     requires { ⌜ at < 32 ⌝ }
     ensures { λ r. ⌜ r ≡ record { setup = session .setup; records = set (session .records) at new } ⌝ }
 {
@@ -159,7 +159,7 @@ pub fn put(session: Session, at: usize, new: Record) -> Session
 }
 
 // A place with no stream.
-pub fn free_record() -> Record
+pub(crate) fn free_record() -> Record
     ensures { λ r. ⌜ r ≡ freePlace ⌝ }
 {
     let replay = fresh();
