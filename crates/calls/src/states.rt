@@ -10,7 +10,7 @@ use crate::sessions::session_number;
 use crate::sessions::session_of;
 use crate::words::count;
 use bits::big_endian::write32;
-use packet::policy::Policy;
+use packet::uses::policy_number;
 use replay::answer::tell;
 use replay::state::ReplayState;
 use replay::state::judge;
@@ -109,15 +109,6 @@ fn put_records(out: &mut [u8], at: usize, session: Session) -> usize {
 
 fn one_if(made: bool) -> u64 {
     if made { 1 } else { 0 }
-}
-
-fn policy_number(policy: Policy) -> u64 {
-    match policy {
-        Policy::Plain => 0,
-        Policy::Cryptex => 1,
-        Policy::CryptexRequired => 2,
-        Policy::Mask => 3,
-    }
 }
 
 // MADE POLICY RECORD;RECORD..

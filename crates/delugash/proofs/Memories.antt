@@ -1,5 +1,5 @@
 -- Lists of calls on two memories.
-use mathlib.Core.Path.{_≡_, refl, ap, ap₂, _∙_}
+use mathlib.Core.Path.{_≡_, refl, sym, ap, ap₂, subst, _∙_}
 use mathlib.Core.List.{List, [], _∷_}
 use Prim.Native.Nat.{ℕ}
 use borrow.Author.Tests.{eq-eqb}
@@ -11,7 +11,7 @@ use Rattle.srtp.specs.Adding.{addOf}
 use Rattle.srtp.specs.Packets.{Answer}
 use Rattle.theorems.specs.Lists.{End, sender, receiver, Call, add, protect, unprotect, endOf, Sessions, sessionAt, withSession, addOutcome, outcomeOf, answerOf, next, Event, event, eventsOf, after, Each}
 use Rattle.theorems.proofs.Arriving.{follow}
-use Rattle.theorems.specs.Arrivals.{ArrivalsFollowTheLedger}
+use Rattle.theorems.specs.Arrivals.{EventsFollowTheLedger, ArrivalsFollowTheLedger}
 use Rattle.delugash.specs.Calls.{addCall}
 use Rattle.delugash.specs.Memories.{Memories, memoryAt, withMemory, wayNumber, leftBy, nextIn, eventsIn, afterIn, decoded, Sized, Words32, AnswersAsSessions, ArrivalsInMemory}
 use Rattle.delugash.specs.Memory.{decode}
@@ -91,5 +91,6 @@ answer-as-sessions = record { events = same-events; sessions = same-sessions }
 
 pub arrivals-in-memory : ArrivalsInMemory
 unfolding ArrivalsInMemory ArrivalsFollowTheLedger
-arrivals-in-memory key salt policy ids m s made calls w b events e =
-    follow key salt policy ids calls b events (e ∙ same-events m s calls w ∙ ap (λ (t : Sessions). eventsOf t calls) made)
+arrivals-in-memory key salt policy ids m s made calls w b =
+    subst (λ (es : List Event). EventsFollowTheLedger policy es) (sym (same-events m s calls w ∙ ap (λ (t : Sessions). eventsOf t calls) made))
+    (follow key salt policy ids calls b)

@@ -1,14 +1,12 @@
 -- Demand 3 for callers of the exported calls: a list of calls on two memories is answered as the list of calls on the two sessions that they hold.
 use mathlib.Core.Path.{_≡_}
 use mathlib.Core.List.{List, [], _∷_}
-use Prim.Native.Nat.{ℕ, suc, _^_, _<_}
-use lib.ListN.{length, getD, drop}
+use Prim.Native.Nat.{ℕ, _^_, _<_}
+use lib.ListN.{length}
 use Rattle.packet.specs.declared.policy.Way.{Way}
 use Rattle.packet.specs.declared.policy.Way.the-variants.{Sending, Receiving}
-use Rattle.srtp.specs.Making.{policyOf}
 use Rattle.theorems.specs.Lists.{End, sender, receiver, Call, add, protect, unprotect, endOf, Sessions, justMade, Event, event, eventsOf, after, Each, Bytes}
-use Rattle.theorems.specs.Sent.{Sent, noneSent, sentFrom, added, noEvent}
-use Rattle.theorems.specs.Arrivals.{Mark, arrivalsOf, Premises, AsTheLedger}
+use Rattle.theorems.specs.Arrivals.{EventsFollowTheLedger}
 use Rattle.delugash.specs.Calls.{Left, addCall, protectCall, unprotectCall}
 use Rattle.delugash.specs.Memory.{size, decode}
 
@@ -73,10 +71,4 @@ unfoldable pub ArrivalsInMemory : Type 0
 ArrivalsInMemory =
     (key salt : List ℕ) (policy : ℕ) (ids : List ℕ) (m : Memories) → Sized m → decoded m ≡ justMade key salt policy ids
     → (calls : List Call) → Each Words32 calls → Each Bytes calls
-    → (events : List Event) → events ≡ eventsIn m calls
-    → (ssrc rollover i j : ℕ) → rollover < 2 ^ 32
-    → getD events i noEvent ≡ added sender ssrc Sending rollover
-    → getD events j noEvent ≡ added receiver ssrc Receiving rollover
-    → (sent : List Sent) → sent ≡ sentFrom ssrc rollover noneSent events
-    → (marks : ℕ → Mark) → Premises ssrc rollover sent marks (drop (suc j) events)
-    → AsTheLedger (policyOf policy) sent [] (arrivalsOf marks (drop (suc j) events))
+    → EventsFollowTheLedger policy (eventsIn m calls)

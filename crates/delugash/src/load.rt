@@ -4,6 +4,7 @@ use crate::words::bytes16;
 use hmac::key::KeyStates;
 use packet::keys::Keys;
 use packet::policy::Policy;
+use packet::uses::uses_mask;
 use replay::state::ReplayState;
 use replay::window::Window;
 use srtp::make::policy_of;
@@ -12,7 +13,6 @@ use srtp::session::Record;
 ghost use mathlib.Core.Path.{_≡_};
 ghost use Prim.Native.Nat.{_+_, _%_, _^_, _≤_};
 ghost use lib.ListN.{length};
-ghost use Rattle.packet.specs.Policies.{usesMask};
 ghost use Rattle.delugash.specs.Steps.{idsFor};
 ghost use Rattle.delugash.specs.Memory.{front, each, isMark, policyAt, kindAt, fiveAt, keysAt, idsAt, recordAt};
 
@@ -96,17 +96,6 @@ fn load_ids(setup: &[u64]) -> [bool; 256]
         id += 1;
     }
     ids
-}
-
-fn uses_mask(policy: Policy) -> bool
-    ensures { λ r. ⌜ r ≡ usesMask policy ⌝ }
-{
-    match policy {
-        Policy::Plain => false,
-        Policy::Cryptex => false,
-        Policy::CryptexRequired => false,
-        Policy::Mask => true,
-    }
 }
 
 // The ids where they count, under the mask; else none, which spares unpacking them.

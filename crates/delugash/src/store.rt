@@ -5,9 +5,10 @@ use crate::places::head_word;
 use crate::words::halves14;
 use crate::words::halves16;
 use crate::words::ids_word;
+use crate::words::one;
 use packet::keys::Keys;
-use packet::policy::Policy;
 use packet::policy::Way;
+use packet::uses::policy_number;
 use replay::state::ReplayState;
 use srtp::session::Setup;
 use srtp::stream::Step;
@@ -16,7 +17,6 @@ ghost use Prim.Native.Nat.{_<_};
 ghost use lib.Dec.{eqb};
 ghost use lib.ListN.{length, replicate};
 ghost use Rattle.bits.specs.Pick.{pick};
-ghost use Rattle.packet.specs.Policies.{policyNumber};
 ghost use Rattle.srtp.specs.Records.{freshRecord};
 ghost use Rattle.delugash.specs.Calls.{withReplayAt};
 ghost use Rattle.delugash.specs.Steps.{Lasts16, Lasts14, Lasts5};
@@ -44,22 +44,13 @@ pub(crate) fn clear(to: &mut [u64])
     }
 }
 
-fn started_word(started: bool) -> u64
-    ensures { λ r. ⌜ r ≡ pick started 1 0 ⌝ }
-{
-    if started {
-        return 1;
-    }
-    0
-}
-
 fn replay_words(state: ReplayState) -> [u64; 6]
     ensures { λ r. ⌜ r ≡ replayWords state ⌝ }
 {
     let window = state.window;
     let stamps = window.stamps;
     let bits = window.bits;
-    let started = started_word(state.started);
+    let started = one(state.started);
     [
         started,
         state.highest,
@@ -76,17 +67,6 @@ pub(crate) fn fresh_words(ssrc: u32, way: Way, rollover: u32) -> [u64; 8]
 {
     let head = head_word(ssrc, way);
     [head, rollover as u64, 0, 0, 0, 0, 0, 0]
-}
-
-fn policy_number(policy: Policy) -> u64
-    ensures { λ r. ⌜ r ≡ policyNumber policy ⌝ }
-{
-    match policy {
-        Policy::Plain => 0,
-        Policy::Cryptex => 1,
-        Policy::CryptexRequired => 2,
-        Policy::Mask => 3,
-    }
 }
 
 fn wide(x: u32) -> u64

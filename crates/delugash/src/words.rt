@@ -78,7 +78,8 @@ pub(crate) fn halves14(b: [u8; 14]) -> [u64; 2]
     [high, low]
 }
 
-fn one(flag: bool) -> u64
+// A flag as a word.
+pub(crate) fn one(flag: bool) -> u64
     ensures { λ r. ⌜ r ≡ pick flag 1 0 ⌝ }
 {
     if flag {

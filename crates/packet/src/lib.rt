@@ -9,4 +9,4 @@ pub mod keys;
 pub mod policy;
 pub mod protect;
 mod tag;
-mod uses;
+pub mod uses;

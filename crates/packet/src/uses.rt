@@ -1,7 +1,18 @@
-// Which policies use Cryptex, and which one the mask.
+// A policy's number, and whether it uses Cryptex or the mask.
 use crate::policy::Policy;
 ghost use mathlib.Core.Path.{_≡_};
-ghost use Rattle.packet.specs.Policies.{usesCryptex, usesMask};
+ghost use Rattle.packet.specs.Policies.{policyNumber, usesCryptex, usesMask};
+
+pub fn policy_number(policy: Policy) -> u64
+    ensures { λ r. ⌜ r ≡ policyNumber policy ⌝ }
+{
+    match policy {
+        Policy::Plain => 0,
+        Policy::Cryptex => 1,
+        Policy::CryptexRequired => 2,
+        Policy::Mask => 3,
+    }
+}
 
 pub fn uses_cryptex(policy: Policy) -> bool
     ensures { λ r. ⌜ r ≡ usesCryptex policy ⌝ }

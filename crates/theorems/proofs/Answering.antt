@@ -1,4 +1,4 @@
--- Demand 1: one answer, and a refusal changes noneSent.
+-- Demand 1: one answer, and a refusal changes nothing.
 use mathlib.Core.Path.{_≡_, refl}
 use mathlib.Core.Bool.{Bool, true, false, not, _&&_}
 use mathlib.Core.List.{List, [], _∷_}

@@ -309,12 +309,13 @@ module _ (h : Setup) (x rollover : ℕ) (large : rollover < 2 ^ 32) (sent : List
 
 pub follow : ArrivalsFollowTheLedger
 unfolding ArrivalsFollowTheLedger
-follow key salt policy ids calls bytes events run x rollover i j large there here sent sent-is marks p =
+follow key salt policy ids calls bytes x rollover i j large there here sent sent-is marks p =
     let start : Sessions = justMade key salt policy ids in
+    let events : List Event = eventsOf start calls in
     let h : Setup = setup key salt policy ids in
     let b : Behind h receiver x Receiving rollover (drop (suc j) events)
-    = rw run (behind-add h receiver x Receiving rollover calls bytes start j refl (rw run at here)) in
-    let goods : Each (Good h x) sent = rw (sent-is, run) (all-sent key salt policy ids calls bytes x rollover i large (rw run at there)) in
+    = behind-add h receiver x Receiving rollover calls bytes start j refl here in
+    let goods : Each (Good h x) sent = rw sent-is (all-sent key salt policy ids calls bytes x rollover i large there) in
     subst (λ (q : Policy). AsTheLedger q sent [] (arrivalsOf marks (drop (suc j) events)))
     (ap (λ (t : Setup). t .policy) (made-setup key salt policy ids (b .made)))
     (from-add h x rollover large sent goods (drop (suc j) events) b marks p)

@@ -1,4 +1,4 @@
--- A stream's record through calls that are not its own; where an add leaves it; and noneSent is sent before the add.
+-- A stream's record through calls that are not its own; where an add leaves it; and nothing is sent before the add.
 use mathlib.Core.Path.{_≡_, refl, ap, _∙_, sym}
 use mathlib.Core.Bool.{Bool, true, false}
 use mathlib.Core.List.{List, [], _∷_}
@@ -111,7 +111,7 @@ module _ (h : Setup) (e : End) (x : ℕ) (w : Way) (rollover : ℕ) where
       }
   behind-add (c ∷ cs) b s (suc i) k q = behind-add cs (b .1) (next s c) i (setup-next e s c ∙ k) q
 
--- ---- noneSent of a stream is sent before its add
+-- ---- nothing of a stream is sent before its add
 
 module _ (x rollover : ℕ) where
   absent-settled : (s : Session) (buf : List ℕ) (y : ℕ) (w : Way) (d : Effect) → hasSsrc (settled s buf y w d .session .records) x ≡ false
@@ -136,7 +136,7 @@ module _ (x rollover : ℕ) where
   absent (c ∷ cs) s zero q = absent-here s c (ap callIn q) (ap numberIn q)
   absent (c ∷ cs) s (suc i) q = absent-next s c (absent cs (next s c) i q)
 
-  -- a call that sends noneSent of the stream
+  -- a call that sends nothing of the stream
   quiet-effect : (s : Session) (buf : List ℕ) (n : ℕ) (last : Last) (es : List Event) (b : Bool) (d : Effect) → hasSsrc (s .records) x ≡ false
       → eqb (ssrcOf (take n buf)) x ≡ b → protectDone s buf n ≡ d
       → sentFrom x rollover last (event (protect sender buf n) (settled s buf (ssrcOf (take n buf)) Sending d .answer) ∷ es) ≡ sentFrom x rollover last es

@@ -205,7 +205,7 @@ followed : (x rollover i j : ℕ) → rollover < 2 ^ 32 → getD events i noEven
     → (l : List Sent) → l ≡ sentFrom x rollover noneSent events → (marks : ℕ → Mark) → Premises x rollover l marks (drop (suc j) events)
     → AsTheLedger CryptexRequired l [] (arrivalsOf marks (drop (suc j) events))
 unfolding ArrivalsFollowTheLedger
-followed x rollover i j large there here l e marks p = follow key salt 2 [] calls bytes events refl x rollover i j large there here l e marks p
+followed x rollover i j large there here l e marks p = follow key salt 2 [] calls bytes x rollover i j large there here l e marks p
 
 pub premises-are-met : PremisesAreMet
 premises-are-met =

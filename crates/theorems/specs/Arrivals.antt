@@ -95,16 +95,19 @@ AsTheLedger policy sent held (a ∷ l) =
     × (a .answer .number ≡ 0 → Right policy (getD sent (a .packet) noPacket .packet) (a .answer))
     × AsTheLedger policy sent (enter 64 held (getD sent (a .packet) noPacket .index) .held) l
 
--- For every list of calls on two sessions just made from equal arguments (equal sets of ids make equal sessions: `EqualSetsEqualSessions`), every stream that it adds at both ends with equal starting rollover, in call i
--- to send at the sender's and in call j to receive at the receiver's, and every marking of the calls after j that meets the premises: each arrival is as the ledger
--- says.
-unfoldable pub ArrivalsFollowTheLedger : Type 0
-ArrivalsFollowTheLedger =
-    (key salt : List ℕ) (policy : ℕ) (ids : List ℕ) (calls : List Call) → Each Bytes calls
-    → (events : List Event) → events ≡ eventsOf (justMade key salt policy ids) calls
-    → (ssrc rollover i j : ℕ) → rollover < 2 ^ 32
+-- In these events: for every stream that is added at both ends with equal starting rollover, in call i to send at the sender's and in call j to receive
+-- at the receiver's, and every marking of the calls after j that meets the premises, each arrival is as the ledger says.
+abbrev pub EventsFollowTheLedger : ℕ → List Event → Type 0
+EventsFollowTheLedger policy events =
+    (ssrc rollover i j : ℕ) → rollover < 2 ^ 32
     → getD events i noEvent ≡ added sender ssrc Sending rollover
     → getD events j noEvent ≡ added receiver ssrc Receiving rollover
     → (sent : List Sent) → sent ≡ sentFrom ssrc rollover noneSent events
     → (marks : ℕ → Mark) → Premises ssrc rollover sent marks (drop (suc j) events)
     → AsTheLedger (policyOf policy) sent [] (arrivalsOf marks (drop (suc j) events))
+
+-- For every list of calls on two sessions just made from equal arguments (equal sets of ids make equal sessions: `EqualSetsEqualSessions`).
+unfoldable pub ArrivalsFollowTheLedger : Type 0
+ArrivalsFollowTheLedger =
+    (key salt : List ℕ) (policy : ℕ) (ids : List ℕ) (calls : List Call) → Each Bytes calls
+    → EventsFollowTheLedger policy (eventsOf (justMade key salt policy ids) calls)

@@ -7,7 +7,7 @@ ghost use Rattle.theorems.specs.Sent.{SentUnderItsIndex};
 ghost use Rattle.theorems.specs.Sums.{SumsHold};
 ghost use Rattle.theorems.specs.Sessions.{SessionsAreSound, EqualSetsEqualSessions};
 
-// Demand 1: a call gives its result or one of its numbers, and a refusal changes noneSent.
+// Demand 1: a call gives its result or one of its numbers, and a refusal changes nothing.
 pub fn one_answer_each()
     ensures { λ _. ⌜ OneAnswerEach ⌝ }
 {}
