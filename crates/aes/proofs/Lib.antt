@@ -1,5 +1,7 @@
 pub mod Words
 pub mod Sbox
-pub mod TableRow
+pub mod RoundTable
+pub mod Sums
 pub mod Rounds
 pub mod Schedule
+pub mod Beginning

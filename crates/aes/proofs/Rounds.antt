@@ -1,29 +1,20 @@
 -- The rounds: a column by the round table, and the chain of the rounds.
 use mathlib.Core.Path.{_≡_, refl, ap, ap₂, _∙_}
 use mathlib.Core.List.{List, []}
-use Prim.Native.Nat.{ℕ, suc, _<_}
+use Prim.Native.Nat.{ℕ, suc}
 use lib.ListN.{getD}
 use Rattle.bits.specs.Xor.{_⊕_, xorList}
-use Rattle.aes.specs.Cipher.{sboxOf, mixColumn, addRoundKey, roundOf, lastRoundOf, roundsOf, cipherOf}
-use Rattle.aes.specs.Steps.{unpackOf, RoundTable}
-use Rattle.aes.proofs.Words.{unpack-xor}
+use Rattle.aes.specs.Cipher.{mixColumn, addRoundKey, roundOf, lastRoundOf, roundsOf, cipherOf}
+use Rattle.aes.specs.Steps.{unpackOf, row0Of, row1Of, row2Of, row3Of}
+use Rattle.aes.proofs.Words.{both}
+use Rattle.aes.proofs.Sums.{order31, column}
 
--- the sum of the four entries and the key's word, unpacked, is the column of the round
-pub mixed : (t : List (List ℕ)) → RoundTable t → (a b c d p : ℕ) (k : List ℕ) → a < 256 → b < 256 → c < 256 → d < 256 → unpackOf p ≡ k
-    → unpackOf (getD (getD t 0 []) a 0 ⊕ getD (getD t 1 []) b 0 ⊕ getD (getD t 2 []) c 0 ⊕ getD (getD t 3 []) d 0 ⊕ p)
-    ≡ xorList (mixColumn (sboxOf a) (sboxOf b) (sboxOf c) (sboxOf d)) k
-mixed t h a b c d p k la lb lc ld e =
-    let x = getD (getD t 0 []) a 0 in
-    let y = getD (getD t 1 []) b 0 in
-    let z = getD (getD t 2 []) c 0 in
-    let w = getD (getD t 3 []) d 0 in
-    unpack-xor (x ⊕ y ⊕ z ⊕ w) p
-    ∙ ap₂ xorList
-    (unpack-xor (x ⊕ y ⊕ z) w
-    ∙ ap₂ xorList
-    (unpack-xor (x ⊕ y) z ∙ ap₂ xorList (unpack-xor x y ∙ ap₂ xorList (h .row0 .entry a la) (h .row1 .entry b lb)) (h .row2 .entry c lc))
-    (h .row3 .entry d ld))
-    e
+-- what the four bytes bring and the key's word, unpacked, is the column of the round
+pub mixed : (x y z w p a b c d : ℕ) (k : List ℕ) → unpackOf x ≡ row0Of a → unpackOf y ≡ row1Of b → unpackOf z ≡ row2Of c → unpackOf w ≡ row3Of d
+    → unpackOf p ≡ k → unpackOf (x ⊕ p ⊕ w ⊕ y ⊕ z) ≡ xorList (mixColumn a b c d) k
+mixed x y z w p a b c d k e f g h i =
+    both (x ⊕ p ⊕ w ⊕ y) z _ _ (both (x ⊕ p ⊕ w) y _ _ (both (x ⊕ p) w _ _ (both x p _ _ e i) h) f) g
+    ∙ column (λ a b c d k. a ⊕ k ⊕ d ⊕ b ⊕ c) order31 a b c d k
 
 -- one round more
 pub next : (ks : List (List (List ℕ))) (s t u : List (List ℕ)) (n : ℕ) → t ≡ roundsOf s ks n → u ≡ roundOf t (getD ks (suc n) []) → u ≡ roundsOf s ks (suc n)

@@ -1,37 +1,21 @@
 // The cipher on one block (FIPS 197, 5.1).
+use crate::begin::Begun;
+use crate::begin::begin;
+use crate::begin::two_rounds;
+use crate::column::add_round_key;
+use crate::column::round_column;
 use crate::key_schedule;
 use crate::tables;
 use crate::word;
 ghost use mathlib.Core.Path.{_≡_};
-ghost use Rattle.bits.specs.Xor.{xorList};
-ghost use Rattle.aes.specs.Cipher.{sboxOf, mixColumn, addRoundKey, roundOf, lastRoundOf, cipherOf};
+ghost use mathlib.Core.List.{List, [], _∷_};
+ghost use Prim.Native.Nat.{ℕ};
+ghost use lib.ListN.{getD};
+ghost use Rattle.aes.specs.Cipher.{roundOf, lastRoundOf, cipherOf};
 ghost use Rattle.aes.specs.Keys.{aes128Of};
-ghost use Rattle.aes.specs.Steps.{SboxTable, RoundTable};
+ghost use Rattle.aes.specs.Steps.{SboxTable, RoundTable, endingOf, Begins};
 
-fn add_round_key(s: [[u8; 4]; 4], k: [[u8; 4]; 4]) -> [[u8; 4]; 4]
-    ensures { λ r. ⌜ r ≡ addRoundKey s k ⌝ }
-{
-    [
-        word::xor(s[0], k[0]),
-        word::xor(s[1], k[1]),
-        word::xor(s[2], k[2]),
-        word::xor(s[3], k[3]),
-    ]
-}
-
-// A column of a round: SubBytes, MixColumns and AddRoundKey, for the four bytes that ShiftRows brings together.
-fn round_column(table: &[[u32; 256]; 4], a: u8, b: u8, c: u8, d: u8, k: [u8; 4]) -> [u8; 4]
-    requires { ⌜ RoundTable (now table) ⌝ }
-    ensures { λ r. ⌜ r ≡ xorList (mixColumn (sboxOf a) (sboxOf b) (sboxOf c) (sboxOf d)) k ⌝ }
-{
-    let mixed = table[0][a as usize]
-        ^ table[1][b as usize]
-        ^ table[2][c as usize]
-        ^ table[3][d as usize];
-    word::unpack(mixed ^ word::pack(k))
-}
-
-fn round(table: &[[u32; 256]; 4], s: [[u8; 4]; 4], k: [[u8; 4]; 4]) -> [[u8; 4]; 4]
+fn round(table: &[u8; 2048], s: [[u8; 4]; 4], k: [[u8; 4]; 4]) -> [[u8; 4]; 4]
     requires { ⌜ RoundTable (now table) ⌝ }
     ensures { λ r. ⌜ r ≡ roundOf s k ⌝ }
 {
@@ -65,20 +49,20 @@ fn last_round(sbox: &[u8; 256], s: [[u8; 4]; 4], k: [[u8; 4]; 4]) -> [[u8; 4]; 4
     add_round_key(shifted, k)
 }
 
-// The cipher on a block. `keys` are the round keys that `expand` makes of a key.
+// The cipher on the block that was begun and that ends with the bytes x and y. `keys` are the round keys that `expand` makes of a key.
 pub fn encrypt(
     sbox: &[u8; 256],
-    table: &[[u32; 256]; 4],
+    table: &[u8; 2048],
     keys: &[[[u8; 4]; 4]; 11],
-    block: [[u8; 4]; 4],
+    begun: Begun,
+    x: u8,
+    y: u8,
 ) -> [[u8; 4]; 4]
     requires { ⌜ SboxTable (now sbox) ⌝ }
     requires { ⌜ RoundTable (now table) ⌝ }
-    ensures { λ r. ⌜ r ≡ cipherOf block (now (keys .entry)) ⌝ }
+    ensures { λ r. ⌜ ((block : List (List ℕ)) → Begins (now (keys .entry)) block begun → r ≡ cipherOf (endingOf block x y) (now (keys .entry))) ⌝ }
 {
-    let s0 = add_round_key(block, keys[0]);
-    let s1 = round(table, s0, keys[1]);
-    let s2 = round(table, s1, keys[2]);
+    let s2 = two_rounds(table, keys, begun, x, y);
     let s3 = round(table, s2, keys[3]);
     let s4 = round(table, s3, keys[4]);
     let s5 = round(table, s4, keys[5]);
@@ -89,12 +73,21 @@ pub fn encrypt(
     last_round(sbox, s9, keys[10])
 }
 
-// AES-128 on one block alone. Whoever has several blocks makes the tables and the round keys once and calls `encrypt`.
+// The bytes that a column ends with.
+fn last_two(column: [u8; 4]) -> [u8; 2]
+    ensures { λ r. ⌜ column ≡ getD column 0 0 ∷ getD column 1 0 ∷ getD r 0 0 ∷ getD r 1 0 ∷ [] ⌝ }
+{
+    [column[2], column[3]]
+}
+
+// AES-128 on one block alone. Whoever has several blocks makes the tables, the round keys and what the blocks have in common once.
 pub fn aes128(key: [[u8; 4]; 4], block: [[u8; 4]; 4]) -> [[u8; 4]; 4]
     ensures { λ r. ⌜ r ≡ aes128Of key block ⌝ }
 {
     let sbox = tables::sbox();
     let table = tables::round_table();
     let keys = key_schedule::expand(&sbox, key);
-    encrypt(&sbox, &table, &keys, block)
+    let begun = begin(&table, &keys, block);
+    let last = last_two(block[3]);
+    encrypt(&sbox, &table, &keys, begun, last[0], last[1])
 }

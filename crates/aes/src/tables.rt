@@ -1,5 +1,5 @@
 // The look-up tables. A constant array is copied at each use of its name, so a caller makes each table once and lends it.
-use crate::rows::ROWS;
+use crate::entries::ENTRIES;
 ghost use Rattle.aes.specs.Steps.{SboxTable, RoundTable};
 
 // FIPS 197, figure 7, row by row.
@@ -29,8 +29,8 @@ pub fn sbox() -> [u8; 256]
 }
 
 // The table of the other rounds.
-pub fn round_table() -> [[u32; 256]; 4]
+pub fn round_table() -> [u8; 2048]
     ensures { λ r. ⌜ RoundTable r ⌝ }
 {
-    ROWS
+    ENTRIES
 }

@@ -1,58 +1,33 @@
--- Derived keys from keystream blocks, over the length.
-use mathlib.Core.Path.{_≡_, sym, ap, ap₂, _∙_}
-use mathlib.Core.List.{List, _++_}
-use Prim.Native.Nat.{ℕ, _+_, _*_, _/_, _%_, _^_, _≤_, _<_}
+-- Derived keys: the keystream onto zeros, over the length.
+use mathlib.Core.Path.{_≡_, refl, ap, ap₂, _∙_}
+use mathlib.Core.List.{List, _∷_}
+use Prim.Native.Nat.{ℕ, zero, suc, _+_, _-_}
 use native.Mathlib.Omega.{arith}
-use lib.Bits.{xor-lt}
-use lib.Dec.{T}
-use lib.ListN.{length, getD, length-set}
-use lib.Pow.{areBytes}
+use borrow.Author.Tests.{le-ltb}
+use lib.Bits.{xor-zero-l}
+use lib.ListN.{length, replicate}
 use Rattle.bits.specs.Lists.{tabulate}
-use Rattle.bits.specs.Xor.{_⊕_}
-use Rattle.bits.proofs.Bytes.{set-bytes}
-use Rattle.bits.proofs.Lists.{tabulated, tabulate-ext}
-use Rattle.aes.specs.Keys.{roundKeysOf}
+use Rattle.bits.specs.Xor.{xorPad}
+use Rattle.bits.proofs.Xor.{pad-ext}
 use Rattle.aes_cm.specs.declared.derivation.SessionKeys.{SessionKeys}
-use Rattle.aes_cm.specs.Keystream.{stateOf, counterOf, blockOf, keystreamOf}
+use Rattle.aes_cm.specs.Keystream.{keystreamOf, portionPad}
 use Rattle.aes_cm.specs.Derivation.{saltFor, derivedOf}
-use Rattle.aes_cm.specs.Steps.{blockBy}
-use Rattle.aes_cm.proofs.Streams.{block-is}
 
-module _ (key salt : List ℕ) (n14 : length salt ≡ 14) (b : T (areBytes salt)) (b7 : getD salt 7 0 < 256)
-    (ks : List (List (List ℕ))) (ek : ks ≡ roundKeysOf (stateOf key)) where
-  -- n bytes of block j are bytes 16 j on of what is derived for a label
-  pub part-is : (label j n : ℕ) (block : List ℕ) → label < 256 → j < 2 ^ 16 → n ≤ 16
-      → block ≡ blockBy ks (stateOf (counterOf (saltFor salt label) 0 0 0)) j
-      → tabulate n (λ k. getD block k 0) ≡ tabulate n (λ k. keystreamOf key (saltFor salt label) 0 0 (16 * j + k))
-  unfolding keystreamOf
-  part-is label j n block hl hj hn e =
-      let x = saltFor salt label in
-      let bx : T (areBytes x) = set-bytes salt 7 (getD salt 7 0 ⊕ label) b (xor-lt 8 (getD salt 7 0) label b7 hl) in
-      let is : block ≡ blockOf key x 0 0 j =
-      e ∙ ap (λ (k : List (List (List ℕ))). blockBy k (stateOf (counterOf x 0 0 0)) j) ek
-      ∙ block-is key x 0 0 (length-set salt 7 (getD salt 7 0 ⊕ label) ∙ n14) bx (omega arith) (omega arith) j hj in
-      tabulate-ext n (λ k. getD block k 0) (λ k. getD (blockOf key x 0 0 ((16 * j + k) / 16)) ((16 * j + k) % 16) 0)
-      (λ k h.
-      let q : j ≡ (16 * j + k) / 16 = omega arith in
-      let r : k ≡ (16 * j + k) % 16 = omega arith in
-      ap (λ (l : List ℕ). getD l k 0) is ∙ ap₂ (λ (m i : ℕ). getD (blockOf key x 0 0 m) i 0) q r)
+onto-zeros : (n : ℕ) (pad : ℕ → ℕ) → xorPad pad (replicate n 0) ≡ tabulate n pad
+onto-zeros zero pad = refl
+onto-zeros (suc n) pad = ap₂ (λ (a : ℕ) (l : List ℕ). a ∷ l) (xor-zero-l (pad 0)) (onto-zeros n (λ i. pad (suc i)))
 
-  pub whole-is : (label : ℕ) (block : List ℕ) → label < 256 → length block ≡ 16
-      → block ≡ blockBy ks (stateOf (counterOf (saltFor salt label) 0 0 0)) 0 → block ≡ derivedOf key salt label 16
-  unfolding derivedOf
-  whole-is label block hl n e = sym (tabulated 0 16 block n) ∙ part-is label 0 16 block hl (omega arith) (omega arith) e
+-- a portion without a gap, from the first byte on
+whole : (stream : ℕ → ℕ) (i : ℕ) → portionPad 0 0 0 stream i ≡ stream i
+unfolding portionPad
+whole stream i = let e : 0 - 0 + (i - 0) ≡ i = omega arith in simp (le-ltb i 0 (omega arith), e)
 
-  pub salt-is : (label : ℕ) (block s : List ℕ) → label < 256
-      → block ≡ blockBy ks (stateOf (counterOf (saltFor salt label) 0 0 0)) 0 → s ≡ tabulate 14 (λ k. getD block k 0) → s ≡ derivedOf key salt label 14
-  unfolding derivedOf
-  salt-is label block s hl e f = f ∙ part-is label 0 14 block hl (omega arith) (omega arith) e
-
-  pub auth-is : (label : ℕ) (b0 b1 a : List ℕ) → label < 256
-      → b0 ≡ blockBy ks (stateOf (counterOf (saltFor salt label) 0 0 0)) 0 → b1 ≡ blockBy ks (stateOf (counterOf (saltFor salt label) 0 0 0)) 1
-      → a ≡ tabulate 16 (λ k. getD b0 k 0) ++ tabulate 4 (λ k. getD b1 k 0) → a ≡ derivedOf key salt label 20
-  unfolding derivedOf
-  auth-is label b0 b1 a hl e0 e1 f =
-      f ∙ ap₂ (λ (u v : List ℕ). u ++ v) (part-is label 0 16 b0 hl (omega arith) (omega arith) e0) (part-is label 1 4 b1 hl (omega arith) (omega arith) e1)
+pub derived-is : (key salt : List ℕ) (label : ℕ) (l m : List ℕ) → l ≡ replicate (length l) 0
+    → m ≡ xorPad (portionPad 0 0 0 (keystreamOf key (saltFor salt label) 0 0)) l → m ≡ derivedOf key salt label (length l)
+unfolding derivedOf
+derived-is key salt label l m z e =
+    let stream = keystreamOf key (saltFor salt label) 0 0 in
+    e ∙ pad-ext (portionPad 0 0 0 stream) stream l (λ i b. whole stream i) ∙ ap (xorPad stream) z ∙ onto-zeros (length l) stream
 
 pub five : {a b c d e p q r s t : List ℕ} → a ≡ p → b ≡ q → c ≡ r → d ≡ s → e ≡ t
     → _≡_ {A = SessionKeys} (record { cipher = a; auth = b; salt = c; «header_cipher» = d; «header_salt» = e })

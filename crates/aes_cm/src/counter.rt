@@ -1,8 +1,10 @@
 // The counter block and the keystream block (RFC 3711, 4.1.1).
+use aes::begin::Begun;
 use aes::cipher::encrypt;
 ghost use mathlib.Core.Path.{_≡_};
-ghost use Prim.Native.Nat.{_^_, _<_};
-ghost use Rattle.aes.specs.Steps.{SboxTable, RoundTable};
+ghost use mathlib.Core.List.{List};
+ghost use Prim.Native.Nat.{ℕ, _^_, _<_};
+ghost use Rattle.aes.specs.Steps.{SboxTable, RoundTable, Begins};
 ghost use Rattle.aes_cm.specs.Keystream.{stateOf, bytesOf, counterOf};
 ghost use Rattle.aes_cm.specs.Steps.{blockBy};
 
@@ -55,26 +57,26 @@ fn bytes(s: [[u8; 4]; 4]) -> [u8; 16]
     ]
 }
 
-// Block j of the keystream: the only function that makes one.
+// Block j of the keystream: the only function that makes one. `begun` is what the blocks of this keystream have in common.
 pub fn keystream_block(
     sbox: &[u8; 256],
-    table: &[[u32; 256]; 4],
+    table: &[u8; 2048],
     keys: &[[[u8; 4]; 4]; 11],
-    iv: [[u8; 4]; 4],
+    begun: Begun,
     j: usize,
 ) -> [u8; 16]
     requires { ⌜ SboxTable (now sbox) ⌝ }
     requires { ⌜ RoundTable (now table) ⌝ }
-    ensures { λ r. ⌜ r ≡ blockBy (now (keys .entry)) iv j ⌝ }
+    ensures { λ r. ⌜ ((iv : List (List ℕ)) → Begins (now (keys .entry)) iv begun → r ≡ blockBy (now (keys .entry)) iv j) ⌝ }
 {
-    let last = iv[3];
-    let counter = [
-        iv[0],
-        iv[1],
-        iv[2],
-        [last[0], last[1], (j / 256 % 256) as u8, (j % 256) as u8],
-    ];
-    bytes(encrypt(sbox, table, keys, counter))
+    bytes(encrypt(
+        sbox,
+        table,
+        keys,
+        begun,
+        (j / 256 % 256) as u8,
+        (j % 256) as u8,
+    ))
 }
 
 // Sixteen bytes as a state.

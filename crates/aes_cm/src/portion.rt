@@ -3,6 +3,7 @@ use crate::counter::iv;
 use crate::counter::state;
 use crate::keystream::Keystream;
 use crate::keystream::xor_stretch;
+use aes::begin::begin;
 use aes::key_schedule::expand;
 use aes::tables;
 ghost use mathlib.Core.Path.{_≡_};
@@ -30,11 +31,12 @@ pub fn xor_portion(
     let table = tables::round_table();
     let keys = expand(&sbox, state(key));
     let v = iv(salt, ssrc, index);
+    let begun = begin(&table, &keys, v);
     let n = buf.len();
     let s = Keystream {
         block: [0u8; 16],
         at: 0,
     };
-    let t = xor_stretch(&sbox, &table, &keys, v, buf, first, stop, s);
-    xor_stretch(&sbox, &table, &keys, v, buf, rest, n, t);
+    let t = xor_stretch(&sbox, &table, &keys, begun, buf, first, stop, s);
+    xor_stretch(&sbox, &table, &keys, begun, buf, rest, n, t);
 }

@@ -1,18 +1,15 @@
--- `aes_cm::keystream::xor_part` meets its contract: a whole block starts at its first byte.
-use mathlib.Core.Path.{_≡_, ap, _∙_}
-use Prim.Native.Nat.{ℕ, _+_}
-use native.Mathlib.Omega.{arith}
+-- `aes_cm::keystream::xor_part` meets its contract.
+use mathlib.Core.Path.{_∙_}
 use borrow.Author.Needs.{needs}
-use lib.ListN.{getD}
-use Rattle.bits.specs.Xor.{xorPad}
+use Rattle.aes_cm.proofs.Columns.{from-zero}
 use Rattle.aes_cm.proofs.keystream.xor_part.Statement.{statement}
 use Rattle.aes_cm.proofs.keystream.xor_part.Tie as tie
 
+xor-block-requires : tie.Need-xor-block-requires
+xor-block-requires c κs = search needs
+
 xor-bytes-requires : tie.Need-xor-bytes-requires
 xor-bytes-requires c κs = search needs
-
-xor-bytes-requires-2 : tie.Need-xor-bytes-requires-2
-xor-bytes-requires-2 c κs = search needs
 
 same-length : tie.Need-same-length
 same-length c = search needs
@@ -20,9 +17,8 @@ same-length c = search needs
 returns : tie.Need-returns
 returns c =
     let x = c .before .before in
-    let g = x .before .before .before .before .args in
-    let z : 0 ≡ g .from = omega arith in
-    x .xor-bytes .ensures ∙ ap (λ (f : ℕ). xorPad (λ k. getD (g .block) (f + k) 0) (g .part .now)) z
+    let a = x .before .before .before .before .args in
+    x .xor-block .ensures ∙ from-zero (a .block) (a .part .now)
 
 same-length-2 : tie.Need-same-length-2
 same-length-2 c = search needs
@@ -33,4 +29,4 @@ returns-2 c = search needs
 pub xor-part-spec : {M : Type 1} → statement M
 xor-part-spec =
     tie.close
-    (tie.spec xor-bytes-requires xor-bytes-requires-2 same-length returns same-length-2 returns-2)
+    (tie.spec xor-block-requires xor-bytes-requires same-length returns same-length-2 returns-2)

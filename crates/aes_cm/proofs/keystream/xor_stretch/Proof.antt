@@ -1,34 +1,59 @@
 -- `aes_cm::keystream::xor_stretch` meets its contract.
-use mathlib.Core.Path.{_≡_, refl, sym, _∙_}
-use Prim.Native.Nat.{_+_, _-_, _%_, _<_}
+use mathlib.Core.Path.{_≡_, refl, _∙_}
+use mathlib.Core.List.{List}
+use Prim.Native.Nat.{ℕ, _+_, _-_, _≤_, _<_}
 use native.Mathlib.Omega.{arith}
 use lib.ListN.{length, take, drop, length-drop}
 use lib.Seq.{length-take-le}
-use Rattle.aes_cm.specs.Steps.{byteBy}
-use Rattle.aes_cm.proofs.Stretches.{stretch-done}
-use Rattle.aes_cm.proofs.Walks.{Span, spanned, Walk, walked}
+use Rattle.aes.specs.Steps.{Begins}
+use Rattle.aes_cm.specs.Steps.{Holds}
+use Rattle.aes_cm.proofs.Walks.{Span, spanned, Place, placed, Walk, followed, stretched}
 use Rattle.aes_cm.proofs.keystream.xor_stretch.Statement.{statement}
 use Rattle.aes_cm.proofs.keystream.xor_stretch.Tie as tie
 
 abbrev Inv-loop : tie.InvT-loop
-Inv-loop sbox table keys iv buf₀ a e t₀ i₀ buf t i = Walk keys iv a e buf₀ t₀ buf t i
+Inv-loop sbox table keys begun buf₀ a e t₀ i₀ buf t i =
+    Place e buf₀ t₀ i₀ buf t i × ((iv : List (List ℕ)) → Begins keys iv begun → Holds keys iv t₀ → Walk keys iv i₀ e buf₀ t₀ buf t i)
 
 abbrev μ-loop : tie.MeasureT-loop
-μ-loop sbox table keys iv buf₀ a e t₀ i₀ buf t i = e - i
+μ-loop sbox table keys begun buf₀ a e t₀ i₀ buf t i = e - i
 
-span-of : (c : tie.After-span Inv-loop μ-loop)
-    → Span (c .before .before .before .loop .t .at % 16) (c .before .before .before .before .before .args .e - c .before .before .before .loop .i) (c .span .result)
+abbrev held-of : tie.After-struct-known2 Inv-loop μ-loop → tie.After-xor-held Inv-loop μ-loop
+held-of c = c .before .before .before .before
+
+abbrev start : tie.After-struct-known2 Inv-loop μ-loop → tie.Start Inv-loop μ-loop
+start c = held-of c .before .before .before
+
+-- the buffer is as long as it was
+room : (c : tie.After-struct-known2 Inv-loop μ-loop) → start c .args .e ≤ length (held-of c .xor-held .last .0)
+room c = omega (arith, c .before .before .before .buf .given, start c .pre .1 .1 .1 .0)
+
+abbrev at-loop : tie.After-span Inv-loop μ-loop → tie.At-loop Inv-loop μ-loop
+at-loop c = c .before .before .before
+
+span-of : (c : tie.After-span Inv-loop μ-loop) → Span 0 (start (at-loop c .before) .args .e - at-loop c .loop .i) (c .span .result)
 span-of c = spanned _ _ (c .span .result) (omega arith) (c .span .ensures)
+
+xor-held-requires : tie.Need-xor-held-requires Inv-loop μ-loop
+xor-held-requires c κs = c .before .before .pre .1 .1
+
+sub-i : tie.Need-sub-i Inv-loop μ-loop
+sub-i c = let u = held-of c .xor-held .ensures .0 in omega (arith, u .forward)
+
+add-i : tie.Need-add-i Inv-loop μ-loop
+add-i c = let s = start c in let u = held-of c .xor-held .ensures .0 in omega (arith, u .forward, u .within, s .pre .1 .1 .1 .1)
 
 loop-holds : tie.Need-loop-holds Inv-loop μ-loop
 loop-holds c =
-    let p = c .before .pre .1 .1 in
-    record { from = omega arith; upto = omega arith; size = refl; at = omega arith; holds = p .0; left = refl }
+    let s = start c in
+    let u = held-of c .xor-held .ensures .0 in
+    let p = s .pre .1 .1 .0 in (
+      record { from = omega arith; upto = omega (arith, u .within); size = refl; at = omega arith; next = λ h. u .next (omega (arith, u .forward, u .within)) },
+      λ iv b h. record { from = omega arith; upto = omega (arith, u .within); size = refl; at = omega arith; holds = h; left = refl },
+    )
 
-current-requires : tie.Need-current-requires Inv-loop μ-loop
-current-requires c κs =
-    let s = c .before .before .before in
-    (s .pre .0, (s .pre .1 .0, c .before .loop .inv .holds))
+keystream-block-requires : tie.Need-keystream-block-requires Inv-loop μ-loop
+keystream-block-requires c κs = let s = start (c .before .before) in (s .pre .0, s .pre .1 .0)
 
 sub-span : tie.Need-sub-span Inv-loop μ-loop
 sub-span c = omega arith
@@ -37,10 +62,7 @@ span-requires : tie.Need-span-requires Inv-loop μ-loop
 span-requires c κs = omega arith
 
 add-end : tie.Need-add-end Inv-loop μ-loop
-add-end c =
-    let l = c .before .before .before .loop in
-    let s = span-of c in
-    omega (arith, s .within, l .inv .size, c .before .before .before .before .before .pre .1 .1 .1 .1 .0)
+add-end c = let l = at-loop c in let s = span-of c in omega (arith, s .within, room (l .before))
 
 sub-xor-part : tie.Need-sub-xor-part Inv-loop μ-loop
 sub-xor-part c = omega arith
@@ -49,28 +71,26 @@ part-xor-part-start : tie.Need-part-xor-part-start Inv-loop μ-loop
 part-xor-part-start c = omega arith
 
 part-xor-part-end : tie.Need-part-xor-part-end Inv-loop μ-loop
-part-xor-part-end c =
-    let l = c .before .before .before .loop in
-    let s = span-of c in
-    omega (arith, s .within, l .inv .size, c .before .before .before .before .before .pre .1 .1 .1 .1 .0)
+part-xor-part-end c = let l = at-loop c in let s = span-of c in omega (arith, s .within, l .loop .inv .0 .size, room (l .before))
 
 xor-part-requires : tie.Need-xor-part-requires Inv-loop μ-loop
 xor-part-requires c κs =
-    let d = c .before in
-    let l = d .before .before .before .loop in
-    let s = span-of d in
-    let n = d .span .result in
-    let p = d .before .before .before .before .before .pre .1 .1 .1 .1 .0 in
-    let m : length (take (l .i + n - l .i) (drop (l .i) (l .buf))) ≡ l .i + n - l .i =
-    length-take-le (l .i + n - l .i) (drop (l .i) (l .buf)) (simp length-drop (omega (arith, s .within, l .inv .size, p))) in
+    let l = at-loop (c .before) in
+    let s = span-of (c .before) in
+    let n = c .before .span .result in
+    let i = l .loop .i in
+    let m : length (take (i + n - i) (drop i (l .loop .buf))) ≡ i + n - i =
+    length-take-le (i + n - i) (drop i (l .loop .buf)) (simp length-drop (omega (arith, s .within, l .loop .inv .0 .size, room (l .before)))) in
     omega (arith, s .fits)
 
-add-t17 : tie.Need-add-t17 Inv-loop μ-loop
-add-t17 c =
+add-t19 : tie.Need-add-t19 Inv-loop μ-loop
+add-t19 c =
     let d = c .before .before .before .before in
-    let l = d .before .before .before .loop in
+    let l = at-loop d in
     let s = span-of d in
-    omega (arith, s .within, s .fits, l .inv .at, l .inv .from, d .before .before .before .before .before .pre .1 .1 .1 .1 .1)
+    let b = start (l .before) in
+    let u = held-of (l .before) .xor-held .ensures .0 in
+    omega (arith, s .within, l .loop .inv .0 .at, l .loop .inv .0 .from, u .forward, u .within, b .pre .1 .1 .1 .1)
 
 loop-less : tie.Need-loop-less Inv-loop μ-loop
 loop-less c =
@@ -83,25 +103,38 @@ loop-again : tie.Need-loop-again Inv-loop μ-loop
 loop-again c =
     let x = c .before .before in
     let d = x .before .before in
-    let b = d .before in
-    let l = b .before .before .loop in
-    let st = b .before .before .before .before in
-    walked (st .args .keys .now) (st .args .iv) (st .args .a) (st .args .e) (st .args .buf .now) (st .args .s) (l .buf) (l .t) (l .i) (d .span .result) (b .current .result) (x .xor-part .last .0)
-    (st .pre .1 .1 .1 .1 .0) (omega arith) (l .inv) (b .current .ensures) (span-of d) (x .xor-part .ensures)
+    let k = d .before in
+    let l = at-loop d in
+    let b = l .before in
+    let a = start b .args in
+    let p = l .loop in
+    let t₀ = held-of b .xor-held .result in
+    let i₀ = a .a + (t₀ .at - a .s .at) in
+    let buf₀ = held-of b .xor-held .last .0 in
+    let hi : p .i < a .e = omega arith in (
+      placed (a .e) buf₀ t₀ i₀ (p .buf) (p .t) (p .i) (d .span .result) (k .keystream-block .result) (x .xor-part .last .0)
+          (room b) hi (p .inv .0) (span-of d) (x .xor-part .ensures),
+      λ iv g h. followed (a .keys .now) iv (a .e) buf₀ t₀ i₀ (p .buf) (p .t) (p .i) (d .span .result) (k .keystream-block .result) (x .xor-part .last .0)
+          (room b) hi (p .inv .0 .next hi) (p .inv .1 iv g h) (k .keystream-block .ensures iv g) (span-of d) (x .xor-part .ensures),
+    )
 
 same-length : tie.Need-same-length Inv-loop μ-loop
-same-length c = c .before .loop .inv .size
+same-length c = let l = c .before in l .loop .inv .0 .size ∙ l .before .before .before .before .buf .given
 
 returns : tie.Need-returns Inv-loop μ-loop
 returns c =
-    let l = c .before .loop in
-    let w = l .inv in
-    let st = c .before .before .before in (
-      w .holds,
-      (
-        omega (arith, w .at, w .upto, w .from),
-        sym (stretch-done (l .i) (st .args .e) (l .t .at) (byteBy (st .args .keys .now) (st .args .iv)) (l .buf) (omega arith)) ∙ w .left,
-      ),
+    let l = c .before in
+    let b = l .before in
+    let a = start b .args in
+    let x = held-of b .xor-held in
+    let u = x .ensures .0 in
+    let p = l .loop .inv .0 in
+    let q = start b .pre .1 .1 .0 in (
+      omega (arith, p .at, p .upto, p .from, u .forward, u .within),
+      λ iv g h.
+          let y = x .ensures .1 (a .keys .now) iv h in
+          let w = l .loop .inv .1 iv g (y .0) in
+          (w .holds, stretched (a .keys .now) iv (a .a) (a .e) (a .s) (x .result) (l .loop .t) (a .buf .now) (x .last .0) (l .loop .buf) (a .a + (x .result .at - a .s .at)) (l .loop .i) q (omega arith) u refl (y .1) w),
     )
 
 pub xor-stretch-spec : {M : Type 1} → statement M
@@ -110,8 +143,11 @@ xor-stretch-spec =
     (tie.spec
     Inv-loop
     μ-loop
+    xor-held-requires
+    sub-i
+    add-i
     loop-holds
-    current-requires
+    keystream-block-requires
     sub-span
     span-requires
     add-end
@@ -119,7 +155,7 @@ xor-stretch-spec =
     part-xor-part-start
     part-xor-part-end
     xor-part-requires
-    add-t17
+    add-t19
     loop-less
     loop-again
     same-length

@@ -37,22 +37,25 @@ expand-requires c κs = search needs
 iv-requires : tie.Need-iv-requires
 iv-requires c κs = search needs
 
+begin-requires : tie.Need-begin-requires
+begin-requires c κs = search needs
+
 xor-stretch-requires : tie.Need-xor-stretch-requires
 xor-stretch-requires c κs =
-    let v = c .before .before .before .before in
+    let v = c .before .before .before .before .before .before .before in
     let t = v .before .before .before .before in
     let p = entry v .pre .1 in
-    (t .before .sbox .ensures, (t .round-table .ensures, (fresh _ _ _, (p .0, (omega arith, omega arith)))))
+    (t .before .sbox .ensures, (t .round-table .ensures, (p .0, (omega arith, omega arith))))
 
 xor-stretch-requires-2 : tie.Need-xor-stretch-requires-2
 xor-stretch-requires-2 c κs =
     let f = c .before .before .before .before .before in
     let x = f .before in
-    let v = x .before .before .before .before .before in
+    let v = x .before .before .before .before .before .before .before .before in
     let t = v .before .before .before .before in
     let p = entry v .pre .1 in
-    let h = x .xor-stretch .ensures in
-    (t .before .sbox .ensures, (t .round-table .ensures, (h .0, (p .1 .1 .0, (omega (arith, f .buf .given), omega (arith, h .1 .0, p .0, p .1 .0, p .1 .1 .0, p .1 .1 .1))))))
+    let h = x .xor-stretch .ensures .0 in
+    (t .before .sbox .ensures, (t .round-table .ensures, (p .1 .1 .0, (omega (arith, f .buf .given), omega (arith, h, p .0, p .1 .0, p .1 .1 .0, p .1 .1 .1)))))
 
 same-length : tie.Need-same-length
 same-length c = search needs
@@ -61,15 +64,18 @@ returns : tie.Need-returns
 returns c =
     let y = c .before .before in
     let x = y .before .before .before .before .before .before .before in
-    let v = x .before .before .before .before .before in
+    let g = x .before .before .before .before .before in
+    let v = g .before .before .before in
     let k = v .before in
     let s = entry v in
     let a = s .args in
     let p = s .pre .1 in
+    let b = g .begin .ensures in
+    let h = x .xor-stretch .ensures .1 (v .iv .result) b (fresh (k .expand .result) (v .iv .result) _) in
     portion-is (a .key) (a .salt) (a .ssrc) (a .index) (fourteen s) (are-bytes (a .salt) (λ n. byte s n .fits)) (s .fits .ssrc .fits) (s .pre .0)
     (k .expand .result) (v .iv .result) (k .expand .ensures ∙ ap roundKeysOf (k .before .state .ensures)) (v .iv .ensures)
     (a .first) (a .stop) (a .rest) (x .xor-stretch .result .at) (a .buf .now) (x .xor-stretch .last .1 .1 .1 .1 .0) (y .xor-stretch2 .last .1 .1 .1 .1 .0)
-    (p .0) (p .1 .0) (p .1 .1 .1) (x .xor-stretch .ensures .1 .0) (x .xor-stretch .ensures .1 .1) (y .xor-stretch2 .ensures .1 .1)
+    (p .0) (p .1 .0) (p .1 .1 .1) (x .xor-stretch .ensures .0) (h .1) (y .xor-stretch2 .ensures .1 (v .iv .result) b (h .0) .1)
 
 pub xor-portion-spec : {M : Type 1} → statement M
 xor-portion-spec =
@@ -80,6 +86,7 @@ xor-portion-spec =
     state-requires
     expand-requires
     iv-requires
+    begin-requires
     xor-stretch-requires
     xor-stretch-requires-2
     same-length

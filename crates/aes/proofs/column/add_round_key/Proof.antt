@@ -1,8 +1,8 @@
--- `aes::cipher::add_round_key` meets its contract, a column at a time.
+-- `aes::column::add_round_key` meets its contract, a column at a time.
 use borrow.Author.Needs.{needs}
 use Rattle.aes.proofs.Words.{cons4}
-use Rattle.aes.proofs.cipher.add_round_key.Statement.{statement}
-use Rattle.aes.proofs.cipher.add_round_key.Tie as tie
+use Rattle.aes.proofs.column.add_round_key.Statement.{statement}
+use Rattle.aes.proofs.column.add_round_key.Tie as tie
 
 array-copy-out-xor : tie.Need-array-copy-out-xor
 array-copy-out-xor c = search needs
