@@ -22,3 +22,9 @@ tabulate-ext (suc n) f g h =
 -- the length of an array of structs: what owning it tells is the length of its elements' machine values
 pub length-mapped : (X Y : Type 0) (f : X → Y) (l : List X) (n : ℕ) → length (map f l) ≡ n → length l ≡ n
 length-mapped X Y f l n e = sym (length-map l f) ∙ e
+
+-- element i is f i
+pub tabulate-at : {A : Type 0} (d : A) (n : ℕ) (f : ℕ → A) (i : ℕ) → i < n → getD (tabulate n f) i d ≡ f i
+tabulate-at d zero f i h = absurd (omega arith)
+tabulate-at d (suc n) f zero h = refl
+tabulate-at d (suc n) f (suc i) h = tabulate-at d n (λ k. f (suc k)) i (omega arith)

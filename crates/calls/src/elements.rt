@@ -73,7 +73,7 @@ pub fn find_element(line: &[u8]) {
 }
 
 // The set of ids, as a session under the mask keeps it.
-fn listed(ids: &[u8]) -> [bool; 256] {
+fn listed(ids: &[u8]) -> [u64; 4] {
     let made = make(&[0u8; 16], &[0u8; 14], 3, ids);
     let setup = made.session.setup;
     setup.ids
@@ -111,7 +111,7 @@ fn put_mask(out: &mut [u8], at: usize, plain: &[u8], masked: &[u8]) -> usize {
 }
 
 // NO MASK
-fn write_mask(plain: &[u8], block: &mut [u8], tag: u16, set: [bool; 256]) {
+fn write_mask(plain: &[u8], block: &mut [u8], tag: u16, set: [u64; 4]) {
     if !whole(block, tag) {
         return write_refused(number(Refusal::Element));
     }

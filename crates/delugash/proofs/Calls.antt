@@ -16,6 +16,7 @@ use Rattle.rtp.specs.declared.header.Header.{Header}
 use Rattle.rtp.specs.declared.header.Header.the-variants.{Read, Refused}
 use Rattle.rtp.specs.declared.header.Layout.{Layout}
 use Rattle.rtp.specs.Header.{headerNumber, ssrcOf}
+use Rattle.rtp.specs.Mask.{listedIn}
 use Rattle.packet.specs.declared.keys.Keys.{Keys}
 use Rattle.packet.specs.declared.policy.Policy.{Policy}
 use Rattle.packet.specs.declared.policy.Way.{Way}
@@ -37,9 +38,7 @@ use Rattle.theorems.proofs.Refusing.{above-zero}
 use Rattle.delugash.specs.declared.answer.Answer.{Answer as Given}
 use Rattle.delugash.specs.Calls.{wrongMemory, Gives, withReplayAt, storedAt, settledIn, protectCall, unprotectCall}
 use Rattle.delugash.specs.Memory.{mark, isMark, policyAt, recordAt, keysAt, idsAt, decode}
-use Rattle.delugash.specs.Steps.{idsFor}
 use Rattle.delugash.specs.Words.{word}
-use Rattle.delugash.proofs.Listed.{protect-listed, unprotect-listed}
 use Rattle.delugash.proofs.Memory.{made, not-made, policy-made, policy-unmade, unmade-nowhere}
 use Rattle.delugash.proofs.Records.{record-at}
 use Rattle.srtp.specs.Making.{policyOf}
@@ -111,21 +110,21 @@ module _ (words : List ℕ) where
 front-of : (n : ℕ) (buf : List ℕ) → take (n - 0) buf ≡ take n buf
 front-of n buf = let z : n - 0 ≡ n = omega arith in rw z
 
-protect-cong : {k k′ : Keys} {p p′ : Policy} {l l′ : List Bool} {r r′ : Record} → k ≡ k′ → p ≡ p′ → l ≡ l′ → r ≡ r′ → (buf : List ℕ) (n : ℕ)
-    → protectIn k p (λ id. getD l id false) buf n (some r) ≡ protectIn k′ p′ (λ id. getD l′ id false) buf n (some r′)
+protect-cong : {k k′ : Keys} {p p′ : Policy} {l l′ : List ℕ} {r r′ : Record} → k ≡ k′ → p ≡ p′ → l ≡ l′ → r ≡ r′ → (buf : List ℕ) (n : ℕ)
+    → protectIn k p (listedIn l) buf n (some r) ≡ protectIn k′ p′ (listedIn l′) buf n (some r′)
 protect-cong {k} {k′} {p} {p′} {l} {l′} {r} {r′} ek ep el er buf n =
-    ap (λ (x : Keys). protectIn x p (λ id. getD l id false) buf n (some r)) ek
-    ∙ ap (λ (x : Policy). protectIn k′ x (λ id. getD l id false) buf n (some r)) ep
-    ∙ ap (λ (x : List Bool). protectIn k′ p′ (λ id. getD x id false) buf n (some r)) el
-    ∙ ap (λ (x : Record). protectIn k′ p′ (λ id. getD l′ id false) buf n (some x)) er
+    ap (λ (x : Keys). protectIn x p (listedIn l) buf n (some r)) ek
+    ∙ ap (λ (x : Policy). protectIn k′ x (listedIn l) buf n (some r)) ep
+    ∙ ap (λ (x : List ℕ). protectIn k′ p′ (listedIn x) buf n (some r)) el
+    ∙ ap (λ (x : Record). protectIn k′ p′ (listedIn l′) buf n (some x)) er
 
-unprotect-cong : {k k′ : Keys} {p p′ : Policy} {l l′ : List Bool} {r r′ : Record} → k ≡ k′ → p ≡ p′ → l ≡ l′ → r ≡ r′ → (buf : List ℕ) (n : ℕ)
-    → unprotectIn k p (λ id. getD l id false) buf n (some r) ≡ unprotectIn k′ p′ (λ id. getD l′ id false) buf n (some r′)
+unprotect-cong : {k k′ : Keys} {p p′ : Policy} {l l′ : List ℕ} {r r′ : Record} → k ≡ k′ → p ≡ p′ → l ≡ l′ → r ≡ r′ → (buf : List ℕ) (n : ℕ)
+    → unprotectIn k p (listedIn l) buf n (some r) ≡ unprotectIn k′ p′ (listedIn l′) buf n (some r′)
 unprotect-cong {k} {k′} {p} {p′} {l} {l′} {r} {r′} ek ep el er buf n =
-    ap (λ (x : Keys). unprotectIn x p (λ id. getD l id false) buf n (some r)) ek
-    ∙ ap (λ (x : Policy). unprotectIn k′ x (λ id. getD l id false) buf n (some r)) ep
-    ∙ ap (λ (x : List Bool). unprotectIn k′ p′ (λ id. getD x id false) buf n (some r)) el
-    ∙ ap (λ (x : Record). unprotectIn k′ p′ (λ id. getD l′ id false) buf n (some x)) er
+    ap (λ (x : Keys). unprotectIn x p (listedIn l) buf n (some r)) ek
+    ∙ ap (λ (x : Policy). unprotectIn k′ x (listedIn l) buf n (some r)) ep
+    ∙ ap (λ (x : List ℕ). unprotectIn k′ p′ (listedIn x) buf n (some r)) el
+    ∙ ap (λ (x : Record). unprotectIn k′ p′ (listedIn l′) buf n (some x)) er
 
 -- ---- protect
 
@@ -177,20 +176,18 @@ module _ (words buf : List ℕ) (n : ℕ) where
                 (refused-gives words _ _ _ _ _ _ (protect-nowhere (decode words) buf n inside j judged-so h read more more-so fits ssrc isSsrc p isPlace e) (above-zero refusal.Stream))
 
             module _ (i : ℕ) (at : p ≡ At i) (in32 : i < 32) (keys : Keys) (areKeys : keys ≡ keysAt (take 27 words))
-                (ids : List Bool) (areIds : ids ≡ idsFor policy (take 27 words))
+                (ids : List ℕ) (areIds : ids ≡ idsAt (take 27 words))
                 (r : Record) (isRecord : r ≡ recordAt (take (27 + 8 * i + 8 - (27 + 8 * i)) (drop (27 + 8 * i) words))) where
               here : placeFrom 0 (decode words .records) ssrc Sending ≡ At i
               here = sym isPlace ∙ at
 
-              same-effect : protectIn keys policy (λ id. getD ids id false) buf n (some r)
-                  ≡ protectIn (decode words .setup .keys) (decode words .setup .policy) (λ id. getD (decode words .setup .ids) id false) buf n (some (getD (decode words .records) i noRecord))
+              same-effect : protectIn keys policy (listedIn ids) buf n (some r)
+                  ≡ protectIn (decode words .setup .keys) (decode words .setup .policy) (listedIn (decode words .setup .ids)) buf n (some (getD (decode words .records) i noRecord))
               same-effect =
-                  protect-cong {p = policy} areKeys refl areIds isRecord buf n
-                  ∙ protect-listed (take 27 words) (keysAt (take 27 words)) policy buf n (recordAt (take (27 + 8 * i + 8 - (27 + 8 * i)) (drop (27 + 8 * i) words)))
-                  ∙ protect-cong (keys-are words ssrc Sending i here in32) own-policy (ids-are words ssrc Sending i here in32) (record-is words ssrc Sending i here in32) buf n
+                  protect-cong (areKeys ∙ keys-are words ssrc Sending i here in32) own-policy (areIds ∙ ids-are words ssrc Sending i here in32) (isRecord ∙ record-is words ssrc Sending i here in32) buf n
 
-              pub protect-stepped-in : (step : Step) → step ≡ stepBy (r .replay) (protectIn keys policy (λ id. getD ids id false) buf n (some r))
-                  → (after : List ℕ) → after ≡ bufferBy buf (protectIn keys policy (λ id. getD ids id false) buf n (some r))
+              pub protect-stepped-in : (step : Step) → step ≡ stepBy (r .replay) (protectIn keys policy (listedIn ids) buf n (some r))
+                  → (after : List ℕ) → after ≡ bufferBy buf (protectIn keys policy (listedIn ids) buf n (some r))
                   → (memory : List ℕ) → memory ≡ pick (eqb (step .number) 0) (withReplayAt words i (step .replay)) words
                   → Gives (protectCall words buf n) (record { number = step .number; length = step .length }) after memory
               protect-stepped-in step isStep after isAfter memory isMemory =
@@ -239,20 +236,18 @@ module _ (words buf : List ℕ) (n : ℕ) where
               in-memory (refused-gives words _ _ _ _ _ _ (unprotect-nowhere (decode words) buf n inside j judged-as h read ssrc isSsrc p isPlace e) (above-zero refusal.Stream))
 
           module _ (i : ℕ) (at : p ≡ At i) (in32 : i < 32) (keys : Keys) (areKeys : keys ≡ keysAt (take 27 words))
-              (ids : List Bool) (areIds : ids ≡ idsFor policy (take 27 words))
+              (ids : List ℕ) (areIds : ids ≡ idsAt (take 27 words))
               (r : Record) (isRecord : r ≡ recordAt (take (27 + 8 * i + 8 - (27 + 8 * i)) (drop (27 + 8 * i) words))) where
             there : placeFrom 0 (decode words .records) ssrc Receiving ≡ At i
             there = sym isPlace ∙ at
 
-            this-effect : unprotectIn keys policy (λ id. getD ids id false) buf n (some r)
-                ≡ unprotectIn (decode words .setup .keys) (decode words .setup .policy) (λ id. getD (decode words .setup .ids) id false) buf n (some (getD (decode words .records) i noRecord))
+            this-effect : unprotectIn keys policy (listedIn ids) buf n (some r)
+                ≡ unprotectIn (decode words .setup .keys) (decode words .setup .policy) (listedIn (decode words .setup .ids)) buf n (some (getD (decode words .records) i noRecord))
             this-effect =
-                unprotect-cong {p = policy} areKeys refl areIds isRecord buf n
-                ∙ unprotect-listed (take 27 words) (keysAt (take 27 words)) policy buf n (recordAt (take (27 + 8 * i + 8 - (27 + 8 * i)) (drop (27 + 8 * i) words)))
-                ∙ unprotect-cong (keys-are words ssrc Receiving i there in32) its-policy (ids-are words ssrc Receiving i there in32) (record-is words ssrc Receiving i there in32) buf n
+                unprotect-cong (areKeys ∙ keys-are words ssrc Receiving i there in32) its-policy (areIds ∙ ids-are words ssrc Receiving i there in32) (isRecord ∙ record-is words ssrc Receiving i there in32) buf n
 
-            pub unprotect-stepped-in : (step : Step) → step ≡ stepBy (r .replay) (unprotectIn keys policy (λ id. getD ids id false) buf n (some r))
-                → (after : List ℕ) → after ≡ bufferBy buf (unprotectIn keys policy (λ id. getD ids id false) buf n (some r))
+            pub unprotect-stepped-in : (step : Step) → step ≡ stepBy (r .replay) (unprotectIn keys policy (listedIn ids) buf n (some r))
+                → (after : List ℕ) → after ≡ bufferBy buf (unprotectIn keys policy (listedIn ids) buf n (some r))
                 → (memory : List ℕ) → memory ≡ pick (eqb (step .number) 0) (withReplayAt words i (step .replay)) words
                 → Gives (unprotectCall words buf n) (record { number = step .number; length = step .length }) after memory
             unprotect-stepped-in step isStep after isAfter memory isMemory =

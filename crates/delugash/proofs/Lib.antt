@@ -1,8 +1,6 @@
 pub mod Bytes
-pub mod Flags
 pub mod Records
 pub mod Memory
-pub mod Listed
 pub mod RoundTrip
 pub mod Calls
 pub mod Adding

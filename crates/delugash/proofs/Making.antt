@@ -41,9 +41,9 @@ free-fit : (n : ℕ) → Each RecordFits (replicate n freePlace)
 free-fit zero = tt
 free-fit (suc n) = (record { ssrc = omega arith; rollover = omega arith; replay = record { stamps = refl; bits = refl } }, free-fit n)
 
-flags-long : (ids : List ℕ) → length (idsOf ids) ≡ 256
+ids-long : (ids : List ℕ) → length (idsOf ids) ≡ 4
 unfolding idsOf
-flags-long ids = refl
+ids-long ids = refl
 
 -- with a result, or with a refusal
 module _ (key salt : List ℕ) (policy : ℕ) (ids : List ℕ) where
@@ -99,7 +99,7 @@ module _ (key salt : List ℕ) (policy : ℕ) (ids : List ℕ) where
         made-decodes a b p q =
             let t = m .session .setup in
             let e : t ≡ setupOf key salt policy ids = ap (λ (x : Session). x .setup) with-result in
-            let n : length (t .ids) ≡ 256 = ap (λ (x : Setup). length (x .ids)) e ∙ flags-long ids in
+            let n : length (t .ids) ≡ 4 = ap (λ (x : Setup). length (x .ids)) e ∙ ids-long ids in
             ap decode laid-out
             ∙ session-kept t (record { key = a .0; salt = a .1; ids = n; cipher = b .0 .0; own-salt = b .0 .1; header-cipher = b .1 .0; header-salt = b .1 .1; inner = p; outer = q })
             (replicate 32 freePlace) (ap (λ (x : Setup). x .made) e) refl (free-fit 32)

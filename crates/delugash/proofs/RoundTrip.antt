@@ -2,11 +2,11 @@
 use mathlib.Core.Path.{_≡_, refl, sym, ap, ap₂, _∙_}
 use mathlib.Core.Bool.{Bool, true, false}
 use mathlib.Core.List.{List, [], _∷_, _++_}
-use Prim.Native.Nat.{ℕ, zero, suc, _+_, _-_, _*_, _/_, _%_, _^_, _<_}
+use Prim.Native.Nat.{ℕ, _+_, _-_, _*_, _^_}
 use native.Mathlib.Nat.{mod-eq-of-lt}
 use native.Mathlib.Omega.{arith}
 use lib.Dec.{eqb}
-use lib.ListN.{length, getD, replicate, length-append}
+use lib.ListN.{length, replicate, length-append}
 use lib.Pow.{high, low}
 use Rattle.bits.specs.Pick.{pick}
 use Rattle.bits.proofs.Bytes.{are-bytes}
@@ -16,7 +16,6 @@ use Rattle.packet.specs.declared.policy.Policy.{Policy}
 use Rattle.packet.specs.declared.policy.Policy.the-variants.{Plain, Cryptex, CryptexRequired, Mask}
 use Rattle.packet.specs.Policies.{policyNumber}
 use Rattle.replay.specs.declared.state.ReplayState.{ReplayState}
-use Rattle.replay.specs.Window.{bit}
 use Rattle.srtp.specs.declared.session.Kind.{Kind}
 use Rattle.srtp.specs.declared.session.Kind.the-variants.{Free, Sender, Receiver}
 use Rattle.srtp.specs.declared.session.Record.{Record}
@@ -24,12 +23,11 @@ use Rattle.srtp.specs.declared.session.Setup.{Setup}
 use Rattle.srtp.specs.declared.session.Session.{Session}
 use Rattle.srtp.specs.Making.{policyOf, unmade, sessionOf}
 use Rattle.theorems.specs.Lists.{Each}
-use Rattle.delugash.specs.Memory.{mark, isMark, kindNumber, kindAt, headWord, replayWords, recordWords, replayAt, recordAt, recordsAt, recordsWords, keysAt, idsAt, idsWord, setupAt, setupWords, encode, decode}
+use Rattle.delugash.specs.Memory.{mark, isMark, kindNumber, kindAt, headWord, replayWords, recordWords, replayAt, recordAt, recordsAt, recordsWords, keysAt, idsAt, setupAt, setupWords, encode, decode}
 use Rattle.delugash.specs.RoundTrip.{Array, SetupFits, ReplayFits, RecordFits, Fits, SessionsLast}
 use Rattle.delugash.specs.Steps.{Lasts16, Lasts14, Lasts5}
 use Rattle.delugash.specs.Words.{word}
 use Rattle.delugash.proofs.Bytes.{bytes-kept}
-use Rattle.delugash.proofs.Flags.{packed-bit, all-unpacked}
 
 -- ---- a record
 
@@ -104,7 +102,7 @@ marked Mask = refl
 pub record Lasts (s : Setup) : Type 0 where
   pub key : Lasts16 (s .key)
   pub salt : Lasts14 (s .salt)
-  pub ids : length (s .ids) ≡ 256
+  pub ids : length (s .ids) ≡ 4
   pub cipher : Lasts16 (s .keys .cipher)
   pub own-salt : Lasts14 (s .keys .salt)
   pub header-cipher : Lasts16 (s .keys .«header_cipher»)
@@ -131,26 +129,13 @@ keys-cong : {a b c d e f a′ b′ c′ d′ e′ f′ : List ℕ} → a ≡ a�
     (record { cipher = a′; salt = b′; «header_cipher» = c′; «header_salt» = d′; auth = record { inner = e′; outer = f′ } })
 keys-cong p q r t u v = cc
 
-setup-cong : {m m′ : Bool} {p p′ : Policy} {a a′ b b′ : List ℕ} {c c′ : List Bool} {d d′ : Keys} → m ≡ m′ → p ≡ p′ → a ≡ a′ → b ≡ b′ → c ≡ c′ → d ≡ d′
+setup-cong : {m m′ : Bool} {p p′ : Policy} {a a′ b b′ c c′ : List ℕ} {d d′ : Keys} → m ≡ m′ → p ≡ p′ → a ≡ a′ → b ≡ b′ → c ≡ c′ → d ≡ d′
     → _≡_ {A = Setup} (record { made = m; policy = p; key = a; salt = b; ids = c; keys = d }) (record { made = m′; policy = p′; key = a′; salt = b′; ids = c′; keys = d′ })
 setup-cong q r t u v w = cc
 
 module _ (s : Setup) (lasts : Lasts s) where
-  ids-word : (j : ℕ) → j < 4 → word (setupWords s) (5 + j) ≡ idsWord (s .ids) j
-  ids-word zero h = refl
-  ids-word (suc zero) h = refl
-  ids-word (suc (suc zero)) h = refl
-  ids-word (suc (suc (suc zero))) h = refl
-  ids-word (suc (suc (suc (suc j)))) h = absurd (omega arith)
-
   ids-kept : idsAt (setupWords s) ≡ s .ids
-  ids-kept =
-      sym (all-unpacked (setupWords s) (s .ids) (lasts .ids)
-      (λ k h.
-      let e : 64 * (k / 64) + k % 64 ≡ k = omega arith in
-      sym (ap (λ (w : ℕ). bit w (k % 64)) (ids-word (k / 64) (omega arith))
-      ∙ packed-bit 64 (λ i. getD (s .ids) (64 * (k / 64) + i) false) (k % 64) (omega arith)
-      ∙ ap (λ (i : ℕ). getD (s .ids) i false) e)))
+  ids-kept = tabulated 0 4 (s .ids) (lasts .ids)
 
   keys-kept : keysAt (setupWords s) ≡ s .keys
   unfolding keysAt

@@ -5,15 +5,13 @@
 --   3  4    master salt          11 12    salt                  22 .. 26  HMAC, outer state
 --   5 .. 8  ids, a bit each      13 14    header cipher key     27 ..     32 records of 8 words
 --                                15 16    header salt
-use mathlib.Core.Bool.{Bool, true, false, _&&_}
+use mathlib.Core.Bool.{Bool, true, _&&_}
 use mathlib.Core.List.{List, [], _∷_, _++_}
 use Prim.Native.Nat.{ℕ, zero, suc, _+_, _-_, _*_, _/_, _%_, _^_}
 use lib.Dec.{eqb, leb}
-use lib.ListN.{getD, take, drop, replicate}
-use Rattle.bits.specs.Lists.{tabulate}
+use lib.ListN.{take, drop, replicate}
 use Rattle.bits.specs.Pick.{pick}
 use Rattle.replay.specs.declared.state.ReplayState.{ReplayState}
-use Rattle.replay.specs.Window.{bit}
 use Rattle.packet.specs.declared.keys.Keys.{Keys}
 use Rattle.packet.specs.declared.policy.Policy.{Policy}
 use Rattle.packet.specs.declared.policy.Policy.the-variants.{Plain}
@@ -24,7 +22,7 @@ use Rattle.srtp.specs.declared.session.Record.{Record}
 use Rattle.srtp.specs.declared.session.Setup.{Setup}
 use Rattle.srtp.specs.declared.session.Session.{Session}
 use Rattle.srtp.specs.Making.{policyOf, unmade, sessionOf}
-use Rattle.delugash.specs.Words.{word, sixteen, fourteen, halves, packed}
+use Rattle.delugash.specs.Words.{word, sixteen, fourteen, halves}
 
 -- ---- the layout
 
@@ -117,9 +115,9 @@ keysAt words =
       auth = record { inner = fiveAt words 17; outer = fiveAt words 22 };
     }
 
--- id k is bit k % 64 of word 5 + k / 64
-unfoldable pub idsAt : List ℕ → List Bool
-idsAt words = tabulate 256 (λ id. bit (word words (5 + id / 64)) (id % 64))
+-- the set of ids, in the four words that the session has it in
+abbrev pub idsAt : List ℕ → List ℕ
+idsAt words = word words 5 ∷ word words 6 ∷ word words 7 ∷ word words 8 ∷ []
 
 abbrev pub setupAt : List ℕ → Setup
 setupAt words =
@@ -132,9 +130,8 @@ setupAt words =
       keys = keysAt words;
     }
 
--- flags 64 j to 64 j + 63
-abbrev pub idsWord : List Bool → ℕ → ℕ
-idsWord ids j = packed 64 (λ k. getD ids (64 * j + k) false)
+abbrev pub fourWords : List ℕ → List ℕ
+fourWords l = word l 0 ∷ word l 1 ∷ word l 2 ∷ word l 3 ∷ []
 
 abbrev pub fiveWords : List ℕ → List ℕ
 fiveWords l = word l 0 ∷ word l 1 ∷ word l 2 ∷ word l 3 ∷ word l 4 ∷ []
@@ -148,7 +145,7 @@ keysWords k = cipherWords k ++ (fiveWords (k .auth .inner) ++ fiveWords (k .auth
 abbrev pub frontWords : Setup → List ℕ
 frontWords s =
     (mark + policyNumber (s .policy))
-    ∷ (halves (s .key) ++ (halves (s .salt) ++ (idsWord (s .ids) 0 ∷ idsWord (s .ids) 1 ∷ idsWord (s .ids) 2 ∷ idsWord (s .ids) 3 ∷ [])))
+    ∷ (halves (s .key) ++ (halves (s .salt) ++ fourWords (s .ids)))
 
 abbrev pub setupWords : Setup → List ℕ
 setupWords s = frontWords s ++ keysWords (s .keys)

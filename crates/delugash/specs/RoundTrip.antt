@@ -31,7 +31,7 @@ pub record KeysFit (k : Keys) : Type 0 where
 pub record SetupFits (s : Setup) : Type 0 where
   pub key : Array 16 256 (s .key)
   pub salt : Array 14 256 (s .salt)
-  pub ids : length (s .ids) ≡ 256
+  pub ids : length (s .ids) ≡ 4
   pub keys : KeysFit (s .keys)
 
 -- a ring of two blocks

@@ -1,19 +1,11 @@
 -- What the code's own steps mean.
 use mathlib.Core.Path.{_≡_}
-use mathlib.Core.Bool.{Bool, false}
 use mathlib.Core.List.{List}
 use Prim.Native.Nat.{ℕ}
 use lib.Dec.{ltb}
-use lib.ListN.{replicate}
 use Rattle.bits.specs.Pick.{pick}
-use Rattle.packet.specs.declared.policy.Policy.{Policy}
-use Rattle.packet.specs.Policies.{usesMask}
-use Rattle.delugash.specs.Memory.{fiveAt, fiveWords, idsAt}
+use Rattle.delugash.specs.Memory.{fiveAt, fiveWords}
 use Rattle.delugash.specs.Words.{word, sixteen, fourteen, halves}
-
--- the ids where they count, under the mask
-abbrev pub idsFor : Policy → List ℕ → List Bool
-idsFor policy words = pick (usesMask policy) (idsAt words) (replicate 256 false)
 
 -- the byte that is sought for an id: no element has id 0
 abbrev pub askedId : ℕ → ℕ

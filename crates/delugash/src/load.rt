@@ -4,7 +4,6 @@ use crate::words::bytes16;
 use hmac::key::KeyStates;
 use packet::keys::Keys;
 use packet::policy::Policy;
-use packet::uses::uses_mask;
 use replay::state::ReplayState;
 use replay::window::Window;
 use srtp::make::policy_of;
@@ -13,7 +12,6 @@ use srtp::session::Record;
 ghost use mathlib.Core.Path.{_≡_};
 ghost use Prim.Native.Nat.{_+_, _%_, _^_, _≤_};
 ghost use lib.ListN.{length};
-ghost use Rattle.delugash.specs.Steps.{idsFor};
 ghost use Rattle.delugash.specs.Memory.{front, each, isMark, policyAt, kindAt, fiveAt, keysAt, idsAt, recordAt};
 
 // "Delugash" in ASCII. A made session's first word is this plus the number of its policy.
@@ -83,30 +81,12 @@ pub(crate) fn load_keys(setup: &[u64]) -> Keys
     }
 }
 
-// The ids as flags.
-fn load_ids(setup: &[u64]) -> [bool; 256]
+// The set of ids: its four words.
+pub(crate) fn load_ids(setup: &[u64]) -> [u64; 4]
     requires { ⌜ length (now setup) ≡ front ⌝ }
     ensures { λ r. ⌜ r ≡ idsAt (now (setup .entry)) ⌝ }
 {
-    let mut ids = [false; 256];
-    let mut id: usize = 0;
-    while id < 256 {
-        let k = (id % 64) as u64;
-        ids[id] = (setup[5 + id / 64] >> k) % 2 == 1;
-        id += 1;
-    }
-    ids
-}
-
-// The ids where they count, under the mask; else none, which spares unpacking them.
-pub(crate) fn ids_for(setup: &[u64], policy: Policy) -> [bool; 256]
-    requires { ⌜ length (now setup) ≡ front ⌝ }
-    ensures { λ r. ⌜ r ≡ idsFor policy (now (setup .entry)) ⌝ }
-{
-    if uses_mask(policy) {
-        return load_ids(setup);
-    }
-    [false; 256]
+    [setup[5], setup[6], setup[7], setup[8]]
 }
 
 // Any number but a sender's and a receiver's is a free place.

@@ -3,7 +3,7 @@ use crate::answer::Answer;
 use crate::answer::MEMORY;
 use crate::answer::refused;
 use crate::answer::unread;
-use crate::load::ids_for;
+use crate::load::load_ids;
 use crate::load::load_keys;
 use crate::load::load_policy;
 use crate::load::load_record;
@@ -51,7 +51,7 @@ pub extern "C" fn delugash_protect(session: &mut [u64], buf: &mut [u8], n: usize
     let end = at + 8;
     let record = load_record(&session[at..end]);
     let keys = load_keys(&session[0..27]);
-    let ids = ids_for(&session[0..27], policy);
+    let ids = load_ids(&session[0..27]);
     let step = protect_stream(keys, policy, &ids, record, buf, n, h);
     settle(session, i, step)
 }

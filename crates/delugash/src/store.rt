@@ -4,7 +4,6 @@ use crate::load::MARK;
 use crate::places::head_word;
 use crate::words::halves14;
 use crate::words::halves16;
-use crate::words::ids_word;
 use crate::words::one;
 use packet::keys::Keys;
 use packet::policy::Way;
@@ -117,10 +116,10 @@ pub(crate) fn front_words(setup: Setup) -> [u64; 9]
         k[1],
         s[0],
         s[1],
-        ids_word(ids, 0),
-        ids_word(ids, 1),
-        ids_word(ids, 2),
-        ids_word(ids, 3),
+        ids[0],
+        ids[1],
+        ids[2],
+        ids[3],
     ]
 }
 

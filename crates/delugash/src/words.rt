@@ -1,10 +1,8 @@
-// Bytes and flags in 64-bit words.
+// Bytes and a flag in 64-bit words.
 use bits::big_endian::read64;
 use bits::big_endian::write64;
 ghost use mathlib.Core.Path.{_≡_};
-ghost use Prim.Native.Nat.{_<_};
 ghost use Rattle.bits.specs.Pick.{pick};
-ghost use Rattle.delugash.specs.Memory.{idsWord};
 ghost use Rattle.delugash.specs.Steps.{Lasts16, Lasts14};
 ghost use Rattle.delugash.specs.Words.{sixteen, fourteen, halves};
 
@@ -86,18 +84,4 @@ pub(crate) fn one(flag: bool) -> u64
         return 1;
     }
     0
-}
-
-// Flags 64 j to 64 j + 63 as a word, from the last to the first.
-pub(crate) fn ids_word(ids: [bool; 256], j: usize) -> u64
-    requires { ⌜ j < 4 ⌝ }
-    ensures { λ r. ⌜ r ≡ idsWord ids j ⌝ }
-{
-    let mut w: u64 = 0;
-    let mut k: usize = 64;
-    while 0 < k {
-        k -= 1;
-        w = one(ids[64 * j + k]) + 2 * w;
-    }
-    w
 }

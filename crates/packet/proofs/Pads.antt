@@ -28,8 +28,11 @@ drop-pad (suc n) f (x ∷ l) =
 
 -- ---- a pad for the mask
 
-pub zeros-length : (z : List ℕ) → z ≡ replicate 2048 0 → length z ≡ 2048
-zeros-length z e = ap length e ∙ length-replicate {A = ℕ} 2048 0
+-- an array of m zeros is as long as it says, and long enough for what fits m
+pub zeros-fit : (m : ℕ) (z : List ℕ) (n : ℕ) → z ≡ replicate m 0 → n ≤ m → (z ≡ replicate (length z) 0) × (n ≤ length z)
+zeros-fit m z n e h =
+    let l : length z ≡ m = ap length e ∙ length-replicate {A = ℕ} m 0 in
+    (rw l e, omega arith)
 
 -- the whole of a keystream, from its first byte on
 whole-stream : (stream : ℕ → ℕ) (k : ℕ) → portionPad 0 0 0 stream k ≡ stream k
@@ -38,21 +41,21 @@ whole-stream stream k =
     let e : 0 - 0 + (k - 0) ≡ k = omega arith in
     simp (le-ltb k 0 (omega arith)) (ap stream e)
 
-module _ (z x : List ℕ) (n : ℕ) (stream : ℕ → ℕ) (e : z ≡ replicate 2048 0) (fits : n ≤ 2048) (made : x ≡ xorPad (portionPad 0 0 0 stream) (take (n - 0) (drop 0 z))) where
+module _ (z x : List ℕ) (n : ℕ) (stream : ℕ → ℕ) (e : z ≡ replicate (length z) 0) (fits : n ≤ length z) (made : x ≡ xorPad (portionPad 0 0 0 stream) (take (n - 0) (drop 0 z))) where
   count : length x ≡ n
   count =
       ap length made ∙ length-pad (portionPad 0 0 0 stream) (take (n - 0) (drop 0 z))
-      ∙ length-take-le (n - 0) (drop 0 z) (omega (arith, zeros-length z e)) ∙ omega arith
+      ∙ length-take-le (n - 0) (drop 0 z) (omega arith) ∙ omega arith
 
   pub long-enough : (r : List ℕ) → n ≤ length (x ++ r)
   long-enough r = let m : length (x ++ r) ≡ length x + length r = length-append x r in omega (arith, count)
 
   zero-at : (k : ℕ) → k < n → getD (take (n - 0) (drop 0 z)) k 0 ≡ 0
-  zero-at k h = getD-take (n - 0) (drop 0 z) k 0 (omega arith) ∙ ap (λ (l : List ℕ). getD l k 0) e ∙ getD-replicate 2048 k 0 0 (omega arith)
+  zero-at k h = getD-take (n - 0) (drop 0 z) k 0 (omega arith) ∙ ap (λ (l : List ℕ). getD l k 0) e ∙ getD-replicate (length z) k 0 0 (omega arith)
 
   made-at : (r : List ℕ) (k : ℕ) → k < n → getD (x ++ r) k 0 ≡ stream k
   made-at r k h =
-      let m : length (take (n - 0) (drop 0 z)) ≡ n - 0 = length-take-le (n - 0) (drop 0 z) (omega (arith, zeros-length z e)) in
+      let m : length (take (n - 0) (drop 0 z)) ≡ n - 0 = length-take-le (n - 0) (drop 0 z) (omega arith) in
       List·getD-append x r 0 k (omega (arith, count)) ∙ ap (λ (l : List ℕ). getD l k 0) made
       ∙ pad-at (portionPad 0 0 0 stream) (take (n - 0) (drop 0 z)) k (omega arith)
       ∙ ap₂ (λ (a b : ℕ). a ⊕ b) (zero-at k h) (whole-stream stream k) ∙ xor-zero-l (stream k)

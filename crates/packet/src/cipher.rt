@@ -7,13 +7,13 @@ use aes_cm::portion::xor_portion;
 use rtp::header::Layout;
 use rtp::mask::mask;
 ghost use mathlib.Core.Path.{_≡_};
-ghost use mathlib.Core.Bool.{true, false};
+ghost use mathlib.Core.Bool.{true};
 ghost use Prim.Native.Nat.{_^_, _≤_, _<_};
-ghost use lib.ListN.{length, getD, replicate};
+ghost use lib.ListN.{length, replicate};
 ghost use Rattle.bits.specs.Xor.{xorPad};
 ghost use Rattle.rtp.specs.Elements.{wholeOf};
 ghost use Rattle.rtp.specs.Header.{layoutOf};
-ghost use Rattle.rtp.specs.Mask.{maskedOf};
+ghost use Rattle.rtp.specs.Mask.{listedIn, maskedOf};
 ghost use Rattle.packet.specs.Cipher.{portionOf, portionPadOf};
 ghost use Rattle.packet.specs.Judging.{elementsFit};
 ghost use Rattle.packet.specs.Wire.{streamOf, headerStreamOf, cipherOf};
@@ -42,7 +42,13 @@ fn encrypted_portion(cryptex: bool, h: Layout) -> Portion
     }
 }
 
-fn zeros() -> [u8; 2048]
+fn short_zeros() -> [u8; 64]
+    ensures { λ r. ⌜ r ≡ replicate 64 0 ⌝ }
+{
+    [0u8; 64]
+}
+
+fn long_zeros() -> [u8; 2048]
     ensures { λ r. ⌜ r ≡ replicate 2048 0 ⌝ }
 {
     [0u8; 2048]
@@ -51,7 +57,7 @@ fn zeros() -> [u8; 2048]
 // The header keystream on a block, under its mask. The keystream is made in `pad`, which holds zeros.
 fn mask_by(
     keys: Keys,
-    ids: &[bool; 256],
+    ids: &[u64; 4],
     ssrc: u32,
     index: u64,
     block: &mut [u8],
@@ -59,8 +65,8 @@ fn mask_by(
     pad: &mut [u8],
 )
     requires { ⌜ (index < 2 ^ 48) × ((length (now block) ≤ 2048) × (wholeOf tag (now block) ≡ true)) ⌝ }
-    requires { ⌜ now pad ≡ replicate 2048 0 ⌝ }
-    ensures { λ _. ⌜ now (block .exit) ≡ maskedOf (λ id. getD (now (ids .entry)) id false) tag (headerStreamOf keys ssrc index) (now (block .entry)) ⌝ }
+    requires { ⌜ (now pad ≡ replicate (length (now pad)) 0) × (length (now block) ≤ length (now pad)) ⌝ }
+    ensures { λ _. ⌜ now (block .exit) ≡ maskedOf (listedIn (now (ids .entry))) tag (headerStreamOf keys ssrc index) (now (block .entry)) ⌝ }
 {
     let n = block.len();
     let key = keys.header_cipher;
@@ -69,12 +75,18 @@ fn mask_by(
     mask(block, tag, ids, pad);
 }
 
-fn mask_block(keys: Keys, ids: &[bool; 256], ssrc: u32, index: u64, block: &mut [u8], tag: u16)
+// Most blocks have at most 64 bytes, for which a short pad will do.
+fn mask_block(keys: Keys, ids: &[u64; 4], ssrc: u32, index: u64, block: &mut [u8], tag: u16)
     requires { ⌜ (index < 2 ^ 48) × ((length (now block) ≤ 2048) × (wholeOf tag (now block) ≡ true)) ⌝ }
-    ensures { λ _. ⌜ now (block .exit) ≡ maskedOf (λ id. getD (now (ids .entry)) id false) tag (headerStreamOf keys ssrc index) (now (block .entry)) ⌝ }
+    ensures { λ _. ⌜ now (block .exit) ≡ maskedOf (listedIn (now (ids .entry))) tag (headerStreamOf keys ssrc index) (now (block .entry)) ⌝ }
 {
-    let mut pad = zeros();
-    mask_by(keys, ids, ssrc, index, block, tag, &mut pad);
+    if block.len() <= 64 {
+        let mut short = short_zeros();
+        mask_by(keys, ids, ssrc, index, block, tag, &mut short);
+        return;
+    }
+    let mut long = long_zeros();
+    mask_by(keys, ids, ssrc, index, block, tag, &mut long);
 }
 
 // The keystream on a portion of a packet.
@@ -92,7 +104,7 @@ fn xor_packet(keys: Keys, ssrc: u32, index: u64, packet: &mut [u8], r: Portion)
 pub fn crypt(
     keys: Keys,
     policy: Policy,
-    ids: &[bool; 256],
+    ids: &[u64; 4],
     ssrc: u32,
     index: u64,
     packet: &mut [u8],
@@ -100,7 +112,7 @@ pub fn crypt(
 )
     requires { ⌜ (h ≡ layoutOf (now packet)) × ((h .payload ≤ length (now packet)) × (length (now packet) ≤ 2048)) ⌝ }
     requires { ⌜ (index < 2 ^ 48) × (elementsFit policy h (now packet) ≡ true) ⌝ }
-    ensures { λ _. ⌜ now (packet .exit) ≡ cipherOf keys policy (λ id. getD (now (ids .entry)) id false) ssrc index (now (packet .entry)) ⌝ }
+    ensures { λ _. ⌜ now (packet .exit) ≡ cipherOf keys policy (listedIn (now (ids .entry))) ssrc index (now (packet .entry)) ⌝ }
 {
     if uses_mask(policy) {
         let block = h.block;

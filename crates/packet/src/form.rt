@@ -12,13 +12,14 @@ use crate::tag::write_tag;
 use crate::uses::uses_cryptex;
 use rtp::header::Layout;
 ghost use mathlib.Core.Path.{_≡_};
-ghost use mathlib.Core.Bool.{true, false, _&&_};
+ghost use mathlib.Core.Bool.{true, _&&_};
 ghost use mathlib.Core.List.{_++_};
 ghost use Prim.Native.Nat.{_+_, _^_, _≤_, _<_};
-ghost use lib.ListN.{length, getD, take, drop};
+ghost use lib.ListN.{length, take, drop};
 ghost use Rattle.bits.specs.Pick.{pick};
 ghost use Rattle.rtp.specs.Header.{layoutOf};
 ghost use Rattle.rtp.specs.declared.header.Header.the-variants.{Read};
+ghost use Rattle.rtp.specs.Mask.{listedIn};
 ghost use Rattle.packet.specs.Cryptex.{addsBlock, taggedOf, untaggedOf};
 ghost use Rattle.packet.specs.Judging.{elementsFit, judgedOf};
 ghost use Rattle.packet.specs.Policies.{usesCryptex};
@@ -37,7 +38,7 @@ fn sends_cryptex(policy: Policy, h: Layout) -> bool
 fn encrypt(
     keys: Keys,
     policy: Policy,
-    ids: &[bool; 256],
+    ids: &[u64; 4],
     ssrc: u32,
     index: u64,
     packet: &mut [u8],
@@ -45,7 +46,7 @@ fn encrypt(
 )
     requires { ⌜ (h ≡ layoutOf (now packet)) × ((h .payload ≤ length (now packet)) × (length (now packet) ≤ 2048)) ⌝ }
     requires { ⌜ (index < 2 ^ 48) × (elementsFit policy h (now packet) ≡ true) ⌝ }
-    ensures { λ _. ⌜ now (packet .exit) ≡ cipherOf keys policy (λ id. getD (now (ids .entry)) id false) ssrc index (taggedOf policy (now (packet .entry))) ⌝ }
+    ensures { λ _. ⌜ now (packet .exit) ≡ cipherOf keys policy (listedIn (now (ids .entry))) ssrc index (taggedOf policy (now (packet .entry))) ⌝ }
 {
     if sends_cryptex(policy, h) {
         let at = h.extension;
@@ -70,7 +71,7 @@ fn encrypt(
 pub fn decrypt(
     keys: Keys,
     policy: Policy,
-    ids: &[bool; 256],
+    ids: &[u64; 4],
     ssrc: u32,
     index: u64,
     packet: &mut [u8],
@@ -78,7 +79,7 @@ pub fn decrypt(
 )
     requires { ⌜ (h ≡ layoutOf (now packet)) × ((h .payload ≤ length (now packet)) × (length (now packet) ≤ 2048)) ⌝ }
     requires { ⌜ (index < 2 ^ 48) × (elementsFit policy h (now packet) ≡ true) ⌝ }
-    ensures { λ _. ⌜ now (packet .exit) ≡ untaggedOf policy (cipherOf keys policy (λ id. getD (now (ids .entry)) id false) ssrc index (now (packet .entry))) ⌝ }
+    ensures { λ _. ⌜ now (packet .exit) ≡ untaggedOf policy (cipherOf keys policy (listedIn (now (ids .entry))) ssrc index (now (packet .entry))) ⌝ }
 {
     crypt(keys, policy, ids, ssrc, index, packet, h);
     if is_cryptex(policy, h) {
@@ -92,7 +93,7 @@ pub fn decrypt(
 pub fn encrypt_packet(
     keys: Keys,
     policy: Policy,
-    ids: &[bool; 256],
+    ids: &[u64; 4],
     ssrc: u32,
     index: u64,
     buf: &mut [u8],
@@ -102,7 +103,7 @@ pub fn encrypt_packet(
     requires { ⌜ (index < 2 ^ 48) × ((n ≤ length (now buf)) × (judgedOf Way.Sending policy 10 (take n (now buf)) ≡ Read h)) ⌝ }
     requires { ⌜ n + pick (addsBlock policy h) 4 0 ≤ length (now buf) ⌝ }
     ensures { λ r. ⌜ r ≡ n + pick (addsBlock policy h) 4 0 ⌝ }
-    ensures { λ r. ⌜ now (buf .exit) ≡ bodyBy policy (cipherOf keys policy (λ id. getD (now (ids .entry)) id false) ssrc index) (take n (now (buf .entry))) ++ drop r (now (buf .entry)) ⌝ }
+    ensures { λ r. ⌜ now (buf .exit) ≡ bodyBy policy (cipherOf keys policy (listedIn (now (ids .entry))) ssrc index) (take n (now (buf .entry))) ++ drop r (now (buf .entry)) ⌝ }
 {
     if adds_block(policy, h) {
         let at = h.extension;

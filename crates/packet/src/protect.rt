@@ -10,14 +10,15 @@ use hmac::mac::mac;
 use hmac::tag::same;
 use rtp::header::Layout;
 ghost use mathlib.Core.Path.{_≡_};
-ghost use mathlib.Core.Bool.{true, false};
+ghost use mathlib.Core.Bool.{true};
 ghost use mathlib.Core.List.{_++_};
 ghost use Prim.Native.Nat.{_+_, _-_, _/_, _^_, _≤_, _<_};
-ghost use lib.ListN.{length, getD, take, drop};
+ghost use lib.ListN.{length, take, drop};
 ghost use Rattle.bits.specs.BigEndian.{toBytes};
 ghost use Rattle.bits.specs.Pick.{pick};
 ghost use Rattle.hmac.specs.Steps.{macOf};
 ghost use Rattle.rtp.specs.declared.header.Header.the-variants.{Read};
+ghost use Rattle.rtp.specs.Mask.{listedIn};
 ghost use Rattle.packet.specs.Judging.{addedOf, judgedOf};
 ghost use Rattle.packet.specs.Wire.{wireOf, restoreOf, tagFits};
 
@@ -46,7 +47,7 @@ fn put_tag(place: &mut [u8], code: [u8; 20])
 pub fn protect_packet(
     keys: Keys,
     policy: Policy,
-    ids: &[bool; 256],
+    ids: &[u64; 4],
     ssrc: u32,
     index: u64,
     buf: &mut [u8],
@@ -56,7 +57,7 @@ pub fn protect_packet(
     requires { ⌜ (index < 2 ^ 48) × ((n ≤ length (now buf)) × (judgedOf Way.Sending policy 10 (take n (now buf)) ≡ Read h)) ⌝ }
     requires { ⌜ n + addedOf Way.Sending policy 10 h ≤ length (now buf) ⌝ }
     ensures { λ r. ⌜ r ≡ n + addedOf Way.Sending policy 10 h ⌝ }
-    ensures { λ r. ⌜ now (buf .exit) ≡ wireOf 10 keys policy (λ id. getD (now (ids .entry)) id false) ssrc index (take n (now (buf .entry))) ++ drop r (now (buf .entry)) ⌝ }
+    ensures { λ r. ⌜ now (buf .exit) ≡ wireOf 10 keys policy (listedIn (now (ids .entry))) ssrc index (take n (now (buf .entry))) ++ drop r (now (buf .entry)) ⌝ }
 {
     let m = encrypt_packet(keys, policy, ids, ssrc, index, buf, n, h);
     let states = keys.auth;
@@ -70,7 +71,7 @@ pub fn protect_packet(
 pub fn unprotect_packet(
     keys: Keys,
     policy: Policy,
-    ids: &[bool; 256],
+    ids: &[u64; 4],
     ssrc: u32,
     index: u64,
     buf: &mut [u8],
@@ -79,7 +80,7 @@ pub fn unprotect_packet(
 ) -> bool
     requires { ⌜ (index < 2 ^ 48) × ((n ≤ length (now buf)) × (judgedOf Way.Receiving policy 10 (take n (now buf)) ≡ Read h)) ⌝ }
     ensures { λ r. ⌜ r ≡ tagFits 10 keys index (take n (now (buf .entry))) ⌝ }
-    ensures { λ r. ⌜ now (buf .exit) ≡ pick r (restoreOf 10 keys policy (λ id. getD (now (ids .entry)) id false) ssrc index (take n (now (buf .entry))) ++ drop (n - 10) (now (buf .entry))) (now (buf .entry)) ⌝ }
+    ensures { λ r. ⌜ now (buf .exit) ≡ pick r (restoreOf 10 keys policy (listedIn (now (ids .entry))) ssrc index (take n (now (buf .entry))) ++ drop (n - 10) (now (buf .entry))) (now (buf .entry)) ⌝ }
 {
     let m = n - 10;
     let states = keys.auth;

@@ -12,6 +12,7 @@ use lib.IntN.{pos}
 use lib.ListN.{getD, replicate, length-replicate, getD-replicate}
 use Rattle.bits.specs.Pick.{pick}
 use Rattle.bits.specs.declared.refusal.Refusal.the-variants as refusal
+use Rattle.bits.proofs.Bits.{no-bit}
 use Rattle.replay.specs.declared.answer.Judged.{Judged}
 use Rattle.replay.specs.declared.answer.Judged.the-variants.{Index, Refused}
 use Rattle.replay.specs.declared.answer.Told.{Told}
@@ -22,7 +23,6 @@ use Rattle.replay.specs.Window.{blockOf, seenIn}
 use Rattle.replay.specs.State.{freshOf, judgeOf, acceptOf, afterOf}
 use Rattle.replay.specs.Receive.{indexFor, judgeIndex, receiveOf}
 use Rattle.replay.specs.Ledger.{highestOf, holds, Entry, given, refused, enter, byLedger, byMemory, byReceiver, stateAfter, heldAfter, guessBeside, GuessedRight, Near}
-use Rattle.replay.proofs.Bits.{no-bit}
 use Rattle.replay.proofs.Guesses.{near}
 use Rattle.replay.proofs.Judging.{first-taken, old, repeated, taken, unworn}
 use Rattle.replay.proofs.Ring.{same?, Whole, mark-whole, seen-same, seen-near, seen-only}

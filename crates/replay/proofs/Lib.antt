@@ -1,7 +1,6 @@
 pub mod Differences
 pub mod Guesses
 pub mod Judging
-pub mod Bits
 pub mod Ring
 pub mod Ledger
 pub mod Indices

@@ -11,9 +11,9 @@ use lib.Bits.{bitOr}
 use lib.Dec.{eqb}
 use lib.ListN.{length, getD, set, length-set}
 use lib.Seq.{getD-set-same, getD-set-other}
+use Rattle.bits.proofs.Bits.{or-same, or-other, no-bit}
 use Rattle.replay.specs.declared.window.Window.{Window}
 use Rattle.replay.specs.Window.{blockOf, seenIn, markOf}
-use Rattle.replay.proofs.Bits.{or-same, or-other, no-bit}
 
 by-test : (m n : ℕ) (t : Bool) → eqb m n ≡ t → (m ≡ n) ⊎ (m ≡ n → ⊥)
 by-test m n true e = inl (eqb-true m n e)

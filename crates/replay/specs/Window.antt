@@ -4,6 +4,7 @@ use Prim.Native.Nat.{ℕ, _/_, _%_, _^_}
 use lib.Bits.{bitOr}
 use lib.Dec.{eqb}
 use lib.ListN.{getD, set}
+use Rattle.bits.specs.Bits.{bit}
 use Rattle.bits.specs.Pick.{pick}
 use Rattle.replay.specs.declared.window.Window.{Window}
 
@@ -13,10 +14,6 @@ blocks = 2
 
 abbrev pub width : ℕ
 width = 64
-
--- bit k of x
-abbrev pub bit : ℕ → ℕ → Bool
-bit x k = eqb (x / 2 ^ k % 2) 1
 
 -- the bits of block n, which stands in place n % b: none where the stamp there is another block's
 abbrev pub blockOf : ℕ → Window → ℕ → ℕ

@@ -2,12 +2,12 @@
 use crate::element::Found;
 use crate::element::next;
 ghost use mathlib.Core.Path.{_≡_};
-ghost use mathlib.Core.Bool.{true, false};
+ghost use mathlib.Core.Bool.{true};
 ghost use Prim.Native.Nat.{_≤_};
 ghost use lib.ListN.{length, getD};
 ghost use Rattle.bits.specs.Xor.{xorList};
 ghost use Rattle.rtp.specs.Elements.{wholeOf};
-ghost use Rattle.rtp.specs.Mask.{maskedOf};
+ghost use Rattle.rtp.specs.Mask.{listedIn, maskedOf};
 
 fn xor_bytes(part: &mut [u8], pad: &[u8])
     requires { ⌜ length (now part) ≤ length (now pad) ⌝ }
@@ -20,16 +20,19 @@ fn xor_bytes(part: &mut [u8], pad: &[u8])
     }
 }
 
-fn is_listed(listed: &[bool; 256], id: u8) -> bool
-    ensures { λ r. ⌜ r ≡ getD (now (listed .entry)) id false ⌝ }
+// Bit id % 64 of word id / 64.
+fn is_listed(listed: &[u64; 4], id: u8) -> bool
+    ensures { λ r. ⌜ r ≡ listedIn (now (listed .entry)) id ⌝ }
 {
-    listed[id as usize]
+    let n = id as usize;
+    let k = (id % 64) as u64;
+    (listed[n / 64] >> k) % 2 == 1
 }
 
 // XORs the data of listed elements with the bytes of a pad that stand at the same places; the rest of the block stays.
-pub fn mask(block: &mut [u8], tag: u16, listed: &[bool; 256], pad: &[u8])
+pub fn mask(block: &mut [u8], tag: u16, listed: &[u64; 4], pad: &[u8])
     requires { ⌜ (wholeOf tag (now block) ≡ true) × (length (now block) ≤ length (now pad)) ⌝ }
-    ensures { λ _. ⌜ now (block .exit) ≡ maskedOf (λ id. getD (now (listed .entry)) id false) tag (λ k. getD (now (pad .entry)) k 0) (now (block .entry)) ⌝ }
+    ensures { λ _. ⌜ now (block .exit) ≡ maskedOf (listedIn (now (listed .entry))) tag (λ k. getD (now (pad .entry)) k 0) (now (block .entry)) ⌝ }
 {
     let mut i: usize = 0;
     while i < block.len() {

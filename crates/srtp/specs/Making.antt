@@ -1,9 +1,10 @@
 -- Document 01, "The library's work" and numbers 15 and 16: a session from a master key, a master salt, a policy and element ids.
 use mathlib.Core.Bool.{Bool, true, false, not, _&&_}
 use mathlib.Core.List.{List}
-use Prim.Native.Nat.{ℕ}
+use Prim.Native.Nat.{ℕ, _+_, _*_}
 use lib.Dec.{eqb, ltb}
 use lib.ListN.{length, replicate}
+use Rattle.bits.specs.Bits.{packed}
 use Rattle.bits.specs.Lists.{tabulate}
 use Rattle.bits.specs.Pick.{pick}
 use Rattle.bits.specs.Refusals.{numberOf}
@@ -31,9 +32,13 @@ keysOf key salt =
       auth = keyStatesOf (sessionKeysOf key salt .auth);
     }
 
--- The set of ids from 1 to 255, as 256 flags: a 0 is ignored, and so are repeats.
-unfoldable pub idsOf : List ℕ → List Bool
-idsOf ids = tabulate 256 (λ id. not (eqb id 0) && among ids id)
+-- the ids that count: a 0 is ignored, and so are repeats
+abbrev pub counts : List ℕ → ℕ → Bool
+counts ids id = not (eqb id 0) && among ids id
+
+-- The set of ids from 1 to 255 in four words of 64 bits: bit k of word j says whether id 64 * j + k is in it.
+unfoldable pub idsOf : List ℕ → List ℕ
+idsOf ids = tabulate 4 (λ j. packed 64 (λ k. counts ids (64 * j + k)))
 
 -- policies 0 to 3; a higher number is refused (POLICY) before this is asked
 abbrev pub policyOf : ℕ → Policy
@@ -55,7 +60,7 @@ unmadeKeys =
     }
 
 abbrev pub unmade : Setup
-unmade = record { made = false; policy = Plain; key = replicate 16 0; salt = replicate 14 0; ids = replicate 256 false; keys = unmadeKeys }
+unmade = record { made = false; policy = Plain; key = replicate 16 0; salt = replicate 14 0; ids = replicate 4 0; keys = unmadeKeys }
 
 -- no stream yet
 abbrev pub sessionOf : Setup → Session

@@ -1,9 +1,9 @@
 -- Document 01, "Numbers given back", 1 to 14: protect and unprotect in a buffer whose first n bytes are the packet.
-use mathlib.Core.Bool.{Bool, false}
+use mathlib.Core.Bool.{Bool}
 use mathlib.Core.List.{List, _++_}
 use Prim.Native.Nat.{ℕ, _+_, _-_}
 use lib.Dec.{ltb}
-use lib.ListN.{length, getD, take, drop}
+use lib.ListN.{length, take, drop}
 use Rattle.bits.specs.Pick.{pick}
 use Rattle.bits.specs.Refusals.{numberOf}
 use Rattle.bits.specs.declared.refusal.Refusal.{Refusal}
@@ -11,6 +11,7 @@ use Rattle.bits.specs.declared.refusal.Refusal.the-variants as refusal
 use Rattle.rtp.specs.declared.header.Header.{Header}
 use Rattle.rtp.specs.declared.header.Header.the-variants.{Read, Refused}
 use Rattle.rtp.specs.Header.{seqOf, ssrcOf, layoutOf}
+use Rattle.rtp.specs.Mask.{listedIn}
 use Rattle.replay.specs.declared.answer.Judged.{Judged}
 use Rattle.replay.specs.declared.answer.Judged.the-variants.{Index, Refused as NoIndex}
 use Rattle.replay.specs.declared.state.ReplayState.{ReplayState}
@@ -39,7 +40,7 @@ pub data Effect : Type 0 where
 
 -- whether an id is in the session's set
 abbrev pub listedBy : Setup → ℕ → Bool
-listedBy setup id = getD (setup .ids) id false
+listedBy setup = listedIn (setup .ids)
 
 -- the protected length
 abbrev pub wireLength : Policy → List ℕ → ℕ → ℕ

@@ -1,7 +1,9 @@
--- What the code's own steps mean: places of records, counted from 0, and what a packet makes of its stream's record.
+-- What the code's own steps mean: a set of ids with one more, places of records, counted from 0, and what a packet makes of its stream's record.
 use mathlib.Core.Bool.{false}
 use mathlib.Core.List.{List, [], _∷_}
-use Prim.Native.Nat.{ℕ, suc, _<_}
+use Prim.Native.Nat.{ℕ, suc, _%_, _^_, _<_}
+use lib.Bits.{bitOr}
+use lib.Dec.{eqb}
 use lib.ListN.{getD, set}
 use Rattle.bits.specs.Pick.{pick}
 use Rattle.bits.specs.Refusals.{numberOf}
@@ -16,6 +18,10 @@ use Rattle.srtp.specs.declared.session.Session.{Session}
 use Rattle.srtp.specs.declared.stream.Step.{Step}
 use Rattle.srtp.specs.Packets.{Effect, refuse, give}
 use Rattle.srtp.specs.Records.{isFree, isFor, withReplay}
+
+-- a word of a set of ids with one id more: a 0 is ignored
+abbrev pub withId : ℕ → ℕ → ℕ
+withId word id = pick (eqb id 0) word (bitOr word (2 ^ (id % 64)))
 
 -- what is read past the end of a list of records
 abbrev pub noRecord : Record

@@ -11,9 +11,9 @@ use hmac::key::key_states;
 use packet::keys::Keys;
 use packet::policy::Policy;
 ghost use mathlib.Core.Path.{_≡_};
-ghost use mathlib.Core.Bool.{false};
 ghost use lib.ListN.{length, replicate};
 ghost use Rattle.srtp.specs.Making.{keysOf, idsOf, policyOf, setupOf, unmadeKeys, sessionOf, notMade, makeOf};
+ghost use Rattle.srtp.specs.Steps.{withId};
 
 // The session keys, with the states of the authentication key in that key's place.
 fn session_keys(key: [u8; 16], salt: [u8; 14]) -> Keys
@@ -35,24 +35,37 @@ fn session_keys(key: [u8; 16], salt: [u8; 14]) -> Keys
     }
 }
 
-fn no_flags() -> [bool; 256]
-    ensures { λ r. ⌜ r ≡ replicate 256 false ⌝ }
+fn no_flags() -> [u64; 4]
+    ensures { λ r. ⌜ r ≡ replicate 4 0 ⌝ }
 {
-    [false; 256]
+    [0u64; 4]
 }
 
-// The ids from 1 to 255 as flags: a 0 is ignored, and so are repeats.
-fn flags(ids: &[u8]) -> [bool; 256]
+// A word of the set with one id more: bit id % 64, which may be set already. A 0 is ignored.
+fn with_id(word: u64, id: u8) -> u64
+    ensures { λ r. ⌜ r ≡ withId word id ⌝ }
+{
+    if id == 0 {
+        return word;
+    }
+    let k = (id % 64) as u64;
+    let one: u64 = 1;
+    word | (one << k)
+}
+
+// The ids from 1 to 255 as the bits of four words.
+fn flags(ids: &[u8]) -> [u64; 4]
     ensures { λ r. ⌜ r ≡ idsOf (now (ids .entry)) ⌝ }
 {
     let mut set = no_flags();
     let mut i: usize = 0;
     while i < ids.len() {
-        let id = ids[i] as usize;
-        set[id] = true;
+        let id = ids[i];
+        let place = (id as usize) / 64;
+        let word = with_id(set[place], id);
+        set[place] = word;
         i += 1;
     }
-    set[0] = false;
     set
 }
 

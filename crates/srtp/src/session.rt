@@ -24,7 +24,8 @@ pub struct Setup {
     pub policy: Policy,
     pub key: [u8; 16],
     pub salt: [u8; 14],
-    pub ids: [bool; 256],
+    // Bit id % 64 of word id / 64.
+    pub ids: [u64; 4],
     pub keys: Keys,
 }
 

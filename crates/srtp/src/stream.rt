@@ -15,10 +15,10 @@ use replay::send::send;
 use replay::state::ReplayState;
 use rtp::header::Layout;
 ghost use mathlib.Core.Path.{_≡_};
-ghost use mathlib.Core.Bool.{false};
 ghost use Prim.Native.Nat.{_+_, _≤_};
-ghost use lib.ListN.{length, getD, take};
+ghost use lib.ListN.{length, take};
 ghost use Rattle.rtp.specs.declared.header.Header.the-variants.{Read};
+ghost use Rattle.rtp.specs.Mask.{listedIn};
 ghost use Rattle.replay.specs.Answers.{toldOf};
 ghost use Rattle.packet.specs.declared.policy.Way.the-variants.{Sending, Receiving};
 ghost use Rattle.packet.specs.Judging.{addedOf, judgedOf};
@@ -49,7 +49,7 @@ fn not_judged(judged: Judged, state: ReplayState) -> Step
 pub fn protect_stream(
     keys: Keys,
     policy: Policy,
-    ids: &[bool; 256],
+    ids: &[u64; 4],
     r: Record,
     buf: &mut [u8],
     n: usize,
@@ -57,8 +57,8 @@ pub fn protect_stream(
 ) -> Step
     requires { ⌜ (n ≤ length (now buf)) × (judgedOf Sending policy tagLength (take n (now buf)) ≡ Read h) ⌝ }
     requires { ⌜ n + addedOf Sending policy tagLength h ≤ length (now buf) ⌝ }
-    ensures { λ s. ⌜ s ≡ stepBy (r .replay) (protectIn keys policy (λ id. getD (now (ids .entry)) id false) (now (buf .entry)) n (some r)) ⌝ }
-    ensures { λ s. ⌜ now (buf .exit) ≡ bufferBy (now (buf .entry)) (protectIn keys policy (λ id. getD (now (ids .entry)) id false) (now (buf .entry)) n (some r)) ⌝ }
+    ensures { λ s. ⌜ s ≡ stepBy (r .replay) (protectIn keys policy (listedIn (now (ids .entry))) (now (buf .entry)) n (some r)) ⌝ }
+    ensures { λ s. ⌜ now (buf .exit) ≡ bufferBy (now (buf .entry)) (protectIn keys policy (listedIn (now (ids .entry))) (now (buf .entry)) n (some r)) ⌝ }
 {
     let state = r.replay;
     let sequence = sequence_number(&buf[0..n]);
@@ -81,15 +81,15 @@ pub fn protect_stream(
 pub fn unprotect_stream(
     keys: Keys,
     policy: Policy,
-    ids: &[bool; 256],
+    ids: &[u64; 4],
     r: Record,
     buf: &mut [u8],
     n: usize,
     h: Layout,
 ) -> Step
     requires { ⌜ (n ≤ length (now buf)) × (judgedOf Receiving policy tagLength (take n (now buf)) ≡ Read h) ⌝ }
-    ensures { λ s. ⌜ s ≡ stepBy (r .replay) (unprotectIn keys policy (λ id. getD (now (ids .entry)) id false) (now (buf .entry)) n (some r)) ⌝ }
-    ensures { λ s. ⌜ now (buf .exit) ≡ bufferBy (now (buf .entry)) (unprotectIn keys policy (λ id. getD (now (ids .entry)) id false) (now (buf .entry)) n (some r)) ⌝ }
+    ensures { λ s. ⌜ s ≡ stepBy (r .replay) (unprotectIn keys policy (listedIn (now (ids .entry))) (now (buf .entry)) n (some r)) ⌝ }
+    ensures { λ s. ⌜ now (buf .exit) ≡ bufferBy (now (buf .entry)) (unprotectIn keys policy (listedIn (now (ids .entry))) (now (buf .entry)) n (some r)) ⌝ }
 {
     let state = r.replay;
     let sequence = sequence_number(&buf[0..n]);

@@ -1,13 +1,15 @@
--- What holds of every session: its keys, its 32 places, and no SSRC twice. And equal sets of ids give equal sessions.
+-- What holds of every session: its keys, its 32 places, and no SSRC twice. And sets of ids: equal ones give equal sessions.
 use mathlib.Core.Path.{_≡_, refl, sym, ap, _∙_}
 use mathlib.Core.Bool.{Bool, true, false, not, _&&_, _||_}
 use mathlib.Core.List.{List, [], _∷_}
-use Prim.Native.Nat.{ℕ, zero, suc, _<_}
+use Prim.Native.Nat.{ℕ, zero, suc, _+_, _*_, _<_}
 use native.Mathlib.Omega.{arith}
 use borrow.Author.Tests.{ne-eqb, eqb-false}
 use lib.Dec.{eqb, ltb}
 use lib.ListN.{length, take, replicate}
+use Rattle.bits.proofs.Bits.{packed-ext}
 use Rattle.bits.proofs.Lists.{tabulate-ext}
+use Rattle.bits.specs.Bits.{packed}
 use Rattle.bits.specs.Pick.{pick}
 use Rattle.bits.specs.declared.refusal.Refusal.the-variants as refusal
 use Rattle.rtp.specs.Mask.{among}
@@ -23,11 +25,12 @@ use Rattle.srtp.specs.declared.session.Record.{Record}
 use Rattle.srtp.specs.declared.session.Setup.{Setup}
 use Rattle.srtp.specs.declared.session.Session.{Session}
 use Rattle.srtp.specs.Records.{isFree, isFor, freePlace, freshRecord, none, recordFor, withReplay, storeFor, hasSsrc, isFull, placed}
-use Rattle.srtp.specs.Making.{idsOf, unmade, sessionOf, makeOf}
+use Rattle.srtp.specs.Making.{counts, idsOf, unmade, sessionOf, makeOf}
 use Rattle.srtp.specs.Adding.{addOf}
 use Rattle.srtp.specs.Packets.{listedBy, tagLength, Effect, refuse, give, unprotectRead, unprotectEffect, settled, protectOf, unprotectOf}
+use Rattle.srtp.proofs.Flags.{ids-listed}
 use Rattle.theorems.specs.Lists.{End, sender, receiver, Call, add, protect, unprotect, Sessions, sessionAt, outcomeOf, next, after, justMade}
-use Rattle.theorems.specs.Sessions.{NoSsrcTwice, Sound, SessionsAreSound, EqualSetsEqualSessions}
+use Rattle.theorems.specs.Sessions.{NoSsrcTwice, Sound, SessionsAreSound, EqualSetsEqualSessions, WordsAreTheSet}
 use Rattle.theorems.proofs.Records.{clash, or-false, free-for, stored-ssrc, addBy}
 use Rattle.theorems.proofs.Settling.{none-given}
 use Rattle.theorems.proofs.Holding.{protectDone, unprotectDone, setup-outcome}
@@ -223,12 +226,17 @@ sessions-are-sound =
 
 same-ids : (ids others : List ℕ) → ((id : ℕ) → 0 < id → id < 256 → among ids id ≡ among others id) → idsOf ids ≡ idsOf others
 unfolding idsOf
-same-ids ids others e = tabulate-ext 256 (λ id. not (eqb id 0) && among ids id) (λ id. not (eqb id 0) && among others id) go
+same-ids ids others e =
+    tabulate-ext 4 (λ j. packed 64 (λ k. counts ids (64 * j + k))) (λ j. packed 64 (λ k. counts others (64 * j + k)))
+    (λ j h. packed-ext 64 (λ k. counts ids (64 * j + k)) (λ k. counts others (64 * j + k)) (λ k b. go (64 * j + k) (omega arith)))
   where
-    go : (id : ℕ) → id < 256 → (not (eqb id 0) && among ids id) ≡ (not (eqb id 0) && among others id)
+    go : (id : ℕ) → id < 256 → counts ids id ≡ counts others id
     go zero h = refl
     go (suc id) h = rw (e (suc id) (omega arith) h)
 
 pub equal-sets : EqualSetsEqualSessions
 unfolding makeOf
 equal-sets = record { equal = λ key salt policy ids others e. rw (same-ids ids others e) }
+
+pub words-are-the-set : WordsAreTheSet
+words-are-the-set = record { listed = ids-listed }

@@ -9,6 +9,7 @@ use lib.Dec.{ltb}
 use lib.ListN.{length, getD, take, drop, replicate, List·getD-append}
 use lib.Seq.{take-at, getD-take}
 use Rattle.rtp.specs.Header.{headerNumber, layoutOf, boundedOf, headerOf, seqOf, ssrcOf}
+use Rattle.rtp.specs.Mask.{listedIn}
 use Rattle.replay.specs.Send.{stepOf, nextOf, sendOf}
 use Rattle.replay.specs.Ledger.{enter}
 use Rattle.packet.specs.declared.policy.Policy.{Policy}
@@ -124,7 +125,7 @@ wire-ssrc : (x i : ℕ) (p : List ℕ) → areBytes p ≡ true → headerNumber 
     → ssrcOf (take (length (wire x i p)) (wire x i p ++ replicate 3 0)) ≡ ssrcOf p
 unfolding ssrcOf
 wire-ssrc x i p b h =
-    let t = sent-is-given-back .back (keysOf key salt) CryptexRequired (λ id. getD (idsOf []) id false) x i 10 p (omega arith) (are-bytes p b) h in
+    let t = sent-is-given-back .back (keysOf key salt) CryptexRequired (listedIn (idsOf [])) x i 10 p (omega arith) (are-bytes p b) h in
     ap ssrcOf (starts (wire x i p))
     ∙ rw (t .header 8 (omega arith) (omega arith), t .header 9 (omega arith) (omega arith), t .header 10 (omega arith) (omega arith), t .header 11 (omega arith) (omega arith)) refl
 
@@ -231,7 +232,7 @@ not-as-it-is : (x i : ℕ) (p : List ℕ) → areBytes p ≡ true → headerNumb
     → profileFits Receiving CryptexRequired (layoutOf p) ≡ false → (layoutOf p .x ≡ true → layoutOf p .extension + 4 ≤ length p)
     → ((k : ℕ) → k < length p → getD (wire x i p) k 0 ≡ getD p k 0) → ⊥
 not-as-it-is x i p b h wrong fits same =
-    let t = sent-is-given-back .back (keysOf key salt) CryptexRequired (λ id. getD (idsOf []) id false) x i 10 p (omega arith) (are-bytes p b) h in
+    let t = sent-is-given-back .back (keysOf key salt) CryptexRequired (listedIn (idsOf [])) x i 10 p (omega arith) (are-bytes p b) h in
     let l : layoutOf (wire x i p) ≡ layoutOf p = layout-same p (wire x i p) (same 0 (omega (arith, passed Sending CryptexRequired 10 p h .long))) (λ q k u v. same k (omega (arith, fits q))) in
     let f : profileFits Receiving CryptexRequired (layoutOf (wire x i p)) ≡ true = passed Receiving CryptexRequired 10 (wire x i p) (t .accepted) .profile in
     clash _ (rw l at f) wrong
@@ -239,7 +240,7 @@ not-as-it-is x i p b h wrong fits same =
 module _ (x i : ℕ) (p : List ℕ) (b : areBytes p ≡ true) (h : headerNumber (judgedOf Sending CryptexRequired 10 p) ≡ 0)
     (wrong : profileFits Receiving CryptexRequired (layoutOf p) ≡ false) (fits : layoutOf p .x ≡ true → layoutOf p .extension + 4 ≤ length p) where
   longer : length p ≤ length (wire x i p)
-  longer = omega (arith, sent-is-given-back .back (keysOf key salt) CryptexRequired (λ id. getD (idsOf []) id false) x i 10 p (omega arith) (are-bytes p b) h .size)
+  longer = omega (arith, sent-is-given-back .back (keysOf key salt) CryptexRequired (listedIn (idsOf [])) x i 10 p (omega arith) (are-bytes p b) h .size)
 
   not-left-by-protect : (more rest : List ℕ) → wire x i p ++ rest ≡ p ++ more → ⊥
   not-left-by-protect more rest e =

@@ -1,10 +1,10 @@
 -- The premises are met: a list of calls under policy 2 with two streams, a loss, a repeat, a late packet, an old one, a packet that is refused before any
 -- key is used, and indices past 65,535. The wire bytes are not computed: they stay `wireOf`.
 use mathlib.Core.Path.{_≡_}
-use mathlib.Core.Bool.{false}
 use mathlib.Core.List.{List, [], _∷_, _++_, map}
 use Prim.Native.Nat.{ℕ}
 use lib.ListN.{length, getD, drop, replicate}
+use Rattle.rtp.specs.Mask.{listedIn}
 use Rattle.packet.specs.declared.policy.Policy.the-variants.{CryptexRequired}
 use Rattle.packet.specs.declared.policy.Way.the-variants.{Sending, Receiving}
 use Rattle.packet.specs.Wire.{wireOf}
@@ -60,7 +60,7 @@ wrongVersion = packetOf 0x00 (0 ∷ 1 ∷ []) voiceSsrc (replicate 20 0)
 
 -- what is sent for a packet, and in a buffer with more bytes after it
 abbrev pub wire : ℕ → ℕ → List ℕ → List ℕ
-wire ssrc index p = wireOf 10 (keysOf key salt) CryptexRequired (λ id. getD (idsOf []) id false) ssrc index p
+wire ssrc index p = wireOf 10 (keysOf key salt) CryptexRequired (listedIn (idsOf [])) ssrc index p
 
 abbrev pub sending : List ℕ → Call
 sending p = protect sender (p ++ replicate 16 0) (length p)

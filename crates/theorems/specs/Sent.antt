@@ -1,12 +1,13 @@
 -- Document 01, "Lists of calls in demand 3": the packets that a stream sends in a list of calls.
 use mathlib.Core.Path.{_≡_}
-use mathlib.Core.Bool.{_&&_, false}
+use mathlib.Core.Bool.{_&&_}
 use mathlib.Core.List.{List, [], _∷_}
 use Prim.Native.Nat.{ℕ, _+_, _-_, _*_, _%_, _^_, _<_}
 use lib.Dec.{eqb}
 use lib.ListN.{getD, take}
 use Rattle.bits.specs.Pick.{pick}
 use Rattle.rtp.specs.Header.{seqOf, ssrcOf}
+use Rattle.rtp.specs.Mask.{listedIn}
 use Rattle.packet.specs.declared.policy.Way.{Way}
 use Rattle.packet.specs.declared.policy.Way.the-variants.{Sending}
 use Rattle.packet.specs.Wire.{wireOf}
@@ -62,7 +63,7 @@ pub record SentAs (key salt : List ℕ) (policy : ℕ) (ids : List ℕ) (x : ℕ
   pub ssrc : ssrcOf (s .packet) ≡ x
   pub low : s .index % 65536 ≡ seqOf (s .packet)
   pub small : s .index < 2 ^ 48
-  pub wire : s .wire ≡ wireOf 10 (keysOf key salt) (policyOf policy) (λ id. getD (idsOf ids) id false) x (s .index) (s .packet)
+  pub wire : s .wire ≡ wireOf 10 (keysOf key salt) (policyOf policy) (listedIn (idsOf ids)) x (s .index) (s .packet)
 
 -- for every list of calls, and every stream that it adds to send in the sender's session, in call i
 unfoldable pub SentUnderItsIndex : Type 0

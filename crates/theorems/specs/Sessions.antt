@@ -1,14 +1,15 @@
 -- What holds of every session that making and any list of calls lead to.
 use mathlib.Core.Path.{_≡_}
-use mathlib.Core.Bool.{true, false}
+use mathlib.Core.Bool.{true, false, not, _&&_}
 use mathlib.Core.List.{List, [], _∷_}
 use Prim.Native.Nat.{ℕ, _<_}
+use lib.Dec.{eqb}
 use lib.ListN.{length}
-use Rattle.rtp.specs.Mask.{among}
+use Rattle.rtp.specs.Mask.{among, listedIn}
 use Rattle.srtp.specs.declared.session.Record.{Record}
 use Rattle.srtp.specs.declared.session.Session.{Session}
 use Rattle.srtp.specs.Records.{isFree, hasSsrc}
-use Rattle.srtp.specs.Making.{keysOf, unmade, sessionOf, makeOf}
+use Rattle.srtp.specs.Making.{keysOf, idsOf, unmade, sessionOf, makeOf}
 use Rattle.theorems.specs.Lists.{End, Call, sessionAt, justMade, outcomeOf, after}
 
 -- no SSRC twice
@@ -36,3 +37,7 @@ pub record SessionsAreSound : Type 0 where
 pub record EqualSetsEqualSessions : Type 0 where
   pub equal : (key salt : List ℕ) (policy : ℕ) (ids others : List ℕ) → ((id : ℕ) → 0 < id → id < 256 → among ids id ≡ among others id)
       → makeOf key salt policy ids ≡ makeOf key salt policy others
+
+-- The four words that a session keeps are its set of ids: those from 1 to 255 in the list.
+pub record WordsAreTheSet : Type 0 where
+  pub listed : (ids : List ℕ) (id : ℕ) → id < 256 → listedIn (idsOf ids) id ≡ (not (eqb id 0) && among ids id)

@@ -5,7 +5,7 @@ ghost use Rattle.theorems.specs.Example.{PremisesAreMet, HollowProgramsD
 ghost use Rattle.theorems.specs.Places.{NeighboursChangePlaces};
 ghost use Rattle.theorems.specs.Sent.{SentUnderItsIndex};
 ghost use Rattle.theorems.specs.Sums.{SumsHold};
-ghost use Rattle.theorems.specs.Sessions.{SessionsAreSound, EqualSetsEqualSessions};
+ghost use Rattle.theorems.specs.Sessions.{SessionsAreSound, EqualSetsEqualSessions, WordsAreTheSet};
 
 // Demand 1: a call gives its result or one of its numbers, and a refusal changes nothing.
 pub fn one_answer_each()
@@ -20,6 +20,11 @@ pub fn sessions_are_sound()
 // Order, repeats and zeros in the list of ids do not matter.
 pub fn equal_sets_give_equal_sessions()
     ensures { λ _. ⌜ EqualSetsEqualSessions ⌝ }
+{}
+
+// The four words of a session's ids are the set that it was made from.
+pub fn words_are_the_set()
+    ensures { λ _. ⌜ WordsAreTheSet ⌝ }
 {}
 
 // Demand 2 over lists: the bytes that a stream sends are the standards', under the index that document 01 gives each packet.

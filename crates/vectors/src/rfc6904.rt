@@ -6,12 +6,9 @@ use libc::STDOUT_FILENO;
 use rtp::mask::mask;
 use srtp::find::find;
 
-fn listed() -> [bool; 256] {
-    let mut ids = [false; 256];
-    ids[1] = true;
-    ids[3] = true;
-    ids[4] = true;
-    ids
+// Bits 1, 3 and 4 of the first word.
+fn listed() -> [u64; 4] {
+    [0b11010, 0, 0, 0]
 }
 
 // The first 24 bytes of the header keystream, and the block under it: SSRC cafebabe, sequence number 1234, rollover counter 0.

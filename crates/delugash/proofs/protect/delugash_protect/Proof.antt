@@ -215,19 +215,19 @@ part-load-keys-end c =
 load-keys-requires : tie.Need-load-keys-requires
 load-keys-requires c κs = search needs
 
-sub-ids-for : tie.Need-sub-ids-for
-sub-ids-for c = search needs
+sub-load-ids : tie.Need-sub-load-ids
+sub-load-ids c = search needs
 
-part-ids-for-start : tie.Need-part-ids-for-start
-part-ids-for-start c = search needs
+part-load-ids-start : tie.Need-part-load-ids-start
+part-load-ids-start c = search needs
 
-part-ids-for-end : tie.Need-part-ids-for-end
-part-ids-for-end c =
+part-load-ids-end : tie.Need-part-load-ids-end
+part-load-ids-end c =
     let t = c .before .before .before .before .before .before .before .before .before .before .before .before .before .before .before .before .before .before .before .before .before .before .before .before .before .before in
     omega (arith, t .if1 .left)
 
-ids-for-requires : tie.Need-ids-for-requires
-ids-for-requires c κs = search needs
+load-ids-requires : tie.Need-load-ids-requires
+load-ids-requires c κs = search needs
 
 protect-stream-requires : tie.Need-protect-stream-requires
 protect-stream-requires c κs =
@@ -280,7 +280,7 @@ returns-6 c =
     let n = s .args .n in
     rw (z .settle .ensures .0)
     (protect-stepped-in w b n (t .if1 .left) (i .if2 .left) _ (p .load-policy .ensures) _ (q .judge .ensures) (h .header .given .0 .0) (h .header .given .1) _ (a .added .ensures .0) (f .if3 .left) _ (x .ssrc .ensures) _ (o .place-of .ensures .0) (k .i .given .0 .0) (k .i .given .1) (rw (k .i .given .1) at (o .place-of .ensures .1))
-    _ (l .load-keys .ensures) _ (d .ids-for .ensures) _ (r .load-record .ensures) _ (y .protect-stream .ensures .0) _ (y .protect-stream .ensures .1) _ (z .settle .ensures .1))
+    _ (l .load-keys .ensures) _ (d .load-ids .ensures) _ (r .load-record .ensures) _ (y .protect-stream .ensures .0) _ (y .protect-stream .ensures .1) _ (z .settle .ensures .1))
 
 pub delugash-protect-spec : {M : Type 1} → statement M
 delugash-protect-spec =
@@ -328,10 +328,10 @@ delugash-protect-spec =
     part-load-keys-start
     part-load-keys-end
     load-keys-requires
-    sub-ids-for
-    part-ids-for-start
-    part-ids-for-end
-    ids-for-requires
+    sub-load-ids
+    part-load-ids-start
+    part-load-ids-end
+    load-ids-requires
     protect-stream-requires
     settle-requires
     same-length-5

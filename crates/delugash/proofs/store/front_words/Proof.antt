@@ -29,20 +29,20 @@ array-read-t19 c = search needs
 array-read-t22 : tie.Need-array-read-t22
 array-read-t22 c = search needs
 
-ids-word-requires : tie.Need-ids-word-requires
-ids-word-requires c κs = search needs
+array-read-t25 : tie.Need-array-read-t25
+array-read-t25 c = search needs
 
-ids-word-requires-2 : tie.Need-ids-word-requires-2
-ids-word-requires-2 c κs = search needs
+array-read-t28 : tie.Need-array-read-t28
+array-read-t28 c = search needs
 
-ids-word-requires-3 : tie.Need-ids-word-requires-3
-ids-word-requires-3 c κs = search needs
+array-read-t31 : tie.Need-array-read-t31
+array-read-t31 c = search needs
 
-ids-word-requires-4 : tie.Need-ids-word-requires-4
-ids-word-requires-4 c κs = search needs
+array-read-t34 : tie.Need-array-read-t34
+array-read-t34 c = search needs
 
 returns : tie.Need-returns
-returns c = (rw (c .before .before .before .before .before .before .policy-number .ensures, c .before .before .before .before .before .halves16 .ensures .0, c .before .before .before .before .halves14 .ensures .0, c .before .before .before .ids-word .ensures, c .before .before .ids-word2 .ensures, c .before .ids-word3 .ensures, c .ids-word4 .ensures), (c .before .before .before .before .before .halves16 .ensures .1, c .before .before .before .before .halves14 .ensures .1))
+returns c = (rw (c .before .before .policy-number .ensures, c .before .halves16 .ensures .0, c .halves14 .ensures .0), (c .before .halves16 .ensures .1, c .halves14 .ensures .1))
 
 pub front-words-spec : {M : Type 1} → statement M
 front-words-spec =
@@ -56,8 +56,8 @@ front-words-spec =
     array-read-t16
     array-read-t19
     array-read-t22
-    ids-word-requires
-    ids-word-requires-2
-    ids-word-requires-3
-    ids-word-requires-4
+    array-read-t25
+    array-read-t28
+    array-read-t31
+    array-read-t34
     returns)

@@ -2,7 +2,7 @@
 use mathlib.Core.Path.{sym, _∙_}
 use mathlib.Core.Bool.{false}
 use native.Mathlib.Omega.{arith}
-use lib.ListN.{getD}
+use Rattle.rtp.specs.Mask.{listedIn}
 use Rattle.packet.specs.Wire.{streamOf, headerStreamOf}
 use Rattle.packet.proofs.Passes.{sound-read, whole-block, block-length, portion-order, crypted-plain, masked-size, crypted-masked}
 use borrow.Author.Needs.{needs}
@@ -37,7 +37,7 @@ encrypted-portion-requires c κs = search needs
 xor-packet-requires : tie.Need-xor-packet-requires
 xor-packet-requires c κs =
     let s = c .before .before .before .before .before .before .before .before .before in
-    let n = masked-size (λ id. getD (s .args .ids .now) id false) (streamOf (s .args .keys) (s .args .ssrc) (s .args .index)) (headerStreamOf (s .args .keys) (s .args .ssrc) (s .args .index)) (s .args .packet .now) (s .args .h) (s .pre .0 .0) (s .args .policy) (s .pre .0 .1 .0) _ (c .before .before .before .before .mask-block .ensures) in (
+    let n = masked-size (listedIn (s .args .ids .now)) (streamOf (s .args .keys) (s .args .ssrc) (s .args .index)) (headerStreamOf (s .args .keys) (s .args .ssrc) (s .args .index)) (s .args .packet .now) (s .args .h) (s .pre .0 .0) (s .args .policy) (s .pre .0 .1 .0) _ (c .before .before .before .before .mask-block .ensures) in (
       (s .pre .1 .0, omega (arith, n, s .pre .0 .1 .1)),
       rw (c .encrypted-portion .ensures) (portion-order false (s .args .h) _ (sound-read _ _ (s .pre .0 .0)) (omega (arith, n, s .pre .0 .1 .0))),
     )
@@ -48,7 +48,7 @@ same-length c = search needs
 returns : tie.Need-returns
 returns c =
     let s = c .before .before .before .before .before .before .before .before .before .before .before .before in
-    crypted-masked (λ id. getD (s .args .ids .now) id false) (streamOf (s .args .keys) (s .args .ssrc) (s .args .index)) (headerStreamOf (s .args .keys) (s .args .ssrc) (s .args .index)) (s .args .packet .now) (s .args .h) (s .pre .0 .0) (s .args .policy) (s .pre .0 .1 .0) _ (c .before .before .before .before .before .before .before .mask-block .ensures) (sym (c .before .before .before .before .before .before .before .before .before .before .uses-mask .ensures) ∙ c .before .before .before .before .before .before .before .before .before .if1 .taken) _ _ (c .before .before .before .encrypted-portion .ensures) (c .before .before .xor-packet .ensures)
+    crypted-masked (listedIn (s .args .ids .now)) (streamOf (s .args .keys) (s .args .ssrc) (s .args .index)) (headerStreamOf (s .args .keys) (s .args .ssrc) (s .args .index)) (s .args .packet .now) (s .args .h) (s .pre .0 .0) (s .args .policy) (s .pre .0 .1 .0) _ (c .before .before .before .before .before .before .before .mask-block .ensures) (sym (c .before .before .before .before .before .before .before .before .before .before .uses-mask .ensures) ∙ c .before .before .before .before .before .before .before .before .before .if1 .taken) _ _ (c .before .before .before .encrypted-portion .ensures) (c .before .before .xor-packet .ensures)
 
 is-cryptex-requires : tie.Need-is-cryptex-requires
 is-cryptex-requires c κs = search needs
@@ -67,7 +67,7 @@ same-length-2 c = search needs
 returns-2 : tie.Need-returns-2
 returns-2 c =
     let s = c .before .before .before .before .before .before .before .before .before in
-    crypted-plain (λ id. getD (s .args .ids .now) id false) (streamOf (s .args .keys) (s .args .ssrc) (s .args .index)) (headerStreamOf (s .args .keys) (s .args .ssrc) (s .args .index)) (s .args .packet .now) (s .args .h) (s .pre .0 .0) (s .args .policy) (sym (c .before .before .before .before .before .before .before .uses-mask .ensures) ∙ c .before .before .before .before .before .before .if1 .left) _ _ _ (c .before .before .before .before .is-cryptex .ensures) (c .before .before .before .encrypted-portion2 .ensures) (c .before .before .xor-packet2 .ensures)
+    crypted-plain (listedIn (s .args .ids .now)) (streamOf (s .args .keys) (s .args .ssrc) (s .args .index)) (headerStreamOf (s .args .keys) (s .args .ssrc) (s .args .index)) (s .args .packet .now) (s .args .h) (s .pre .0 .0) (s .args .policy) (sym (c .before .before .before .before .before .before .before .uses-mask .ensures) ∙ c .before .before .before .before .before .before .if1 .left) _ _ _ (c .before .before .before .before .is-cryptex .ensures) (c .before .before .before .encrypted-portion2 .ensures) (c .before .before .xor-packet2 .ensures)
 
 pub crypt-spec : {M : Type 1} → statement M
 crypt-spec =

@@ -1,9 +1,9 @@
 -- `packet::form::encrypt` meets its contract.
 use mathlib.Core.Path.{sym, ap, _∙_}
-use mathlib.Core.Bool.{false}
 use native.Mathlib.Omega.{arith}
-use lib.ListN.{length, getD}
+use lib.ListN.{length}
 use Rattle.rtp.specs.Header.{layoutOf}
+use Rattle.rtp.specs.Mask.{listedIn}
 use Rattle.packet.specs.Policies.{usesCryptex}
 use Rattle.packet.specs.Wire.{cipherOf}
 use Rattle.packet.proofs.Crypting.{and-left, and-right}
@@ -44,7 +44,7 @@ returns : tie.Need-returns
 returns c =
     let s = c .before .before .before .before .before .before .before .before .before .before .before .before in
     c .before .before .crypt .ensures
-    ∙ ap (cipherOf (s .args .keys) (s .args .policy) (λ id. getD (s .args .ids .now) id false) (s .args .ssrc) (s .args .index))
+    ∙ ap (cipherOf (s .args .keys) (s .args .policy) (listedIn (s .args .ids .now)) (s .args .ssrc) (s .args .index))
     (c .before .before .before .before .before .before .write-tag .ensures ∙ is-tagged (s .args .packet .now) (s .args .h) (s .pre .0 .0) (s .args .policy) _ (sym (c .before .before .before .before .before .before .before .before .before .before .sends-cryptex .ensures) ∙ c .before .before .before .before .before .before .before .before .before .if1 .taken) (c .before .before .before .before .before .before .before .before .cryptex-tag .ensures))
 
 crypt-requires-2 : tie.Need-crypt-requires-2
@@ -57,7 +57,7 @@ returns-2 : tie.Need-returns-2
 returns-2 c =
     let s = c .before .before .before .before .before .before .before in
     c .before .before .crypt2 .ensures
-    ∙ ap (cipherOf (s .args .keys) (s .args .policy) (λ id. getD (s .args .ids .now) id false) (s .args .ssrc) (s .args .index))
+    ∙ ap (cipherOf (s .args .keys) (s .args .policy) (listedIn (s .args .ids .now)) (s .args .ssrc) (s .args .index))
     (not-tagged (s .args .packet .now) (s .args .h) (s .pre .0 .0) (s .args .policy) (sym (c .before .before .before .before .before .sends-cryptex .ensures) ∙ c .before .before .before .before .if1 .left))
 
 pub encrypt-spec : {M : Type 1} → statement M

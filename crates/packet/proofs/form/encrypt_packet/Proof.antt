@@ -1,10 +1,10 @@
 -- `packet::form::encrypt_packet` meets its contract.
 use mathlib.Core.Path.{_≡_, sym, ap, ap₂, _∙_}
-use mathlib.Core.Bool.{false}
 use mathlib.Core.List.{List, _++_}
 use Prim.Native.Nat.{ℕ, _+_, _-_, _≤_}
 use native.Mathlib.Omega.{arith}
-use lib.ListN.{length, getD}
+use lib.ListN.{length}
+use Rattle.rtp.specs.Mask.{listedIn}
 use Rattle.packet.specs.Wire.{bodyBy, cipherOf}
 use Rattle.packet.specs.Cryptex.{taggedOf}
 use Rattle.packet.proofs.RoundTrips.{not-both}
@@ -74,7 +74,7 @@ returns c =
     let k = grown-back (s .args .policy) (s .args .buf .now) (s .args .n) (s .args .h) (s .pre .0 .1 .0) (s .pre .0 .1 .1) a _ (c .before .before .before .before .before .before .add-block .ensures) in (
       rw a,
       ap₂ (λ (u v : List ℕ). u ++ v)
-          (c .before .before .encrypt .ensures ∙ ap (λ (u : List ℕ). cipherOf (s .args .keys) (s .args .policy) (λ id. getD (s .args .ids .now) id false) (s .args .ssrc) (s .args .index) (taggedOf (s .args .policy) u)) (f ∙ is-added (s .args .policy) (s .args .buf .now) (s .args .n) (s .args .h) (s .pre .0 .1 .0) (s .pre .0 .1 .1) a))
+          (c .before .before .encrypt .ensures ∙ ap (λ (u : List ℕ). cipherOf (s .args .keys) (s .args .policy) (listedIn (s .args .ids .now)) (s .args .ssrc) (s .args .index) (taggedOf (s .args .policy) u)) (f ∙ is-added (s .args .policy) (s .args .buf .now) (s .args .n) (s .args .h) (s .pre .0 .1 .0) (s .pre .0 .1 .1) a))
           k,
     )
 
@@ -105,7 +105,7 @@ returns-2 c =
     let a = sym (c .before .before .before .before .before .adds-block .ensures) ∙ c .before .before .before .before .if1 .left in (
       rw a (omega arith),
       ap₂ (λ (u v : List ℕ). u ++ v)
-          (c .before .before .encrypt2 .ensures ∙ ap (λ (u : List ℕ). cipherOf (s .args .keys) (s .args .policy) (λ id. getD (s .args .ids .now) id false) (s .args .ssrc) (s .args .index) (taggedOf (s .args .policy) u)) (front-is (s .args .n) (s .args .buf .now) ∙ not-added (s .args .policy) (s .args .buf .now) (s .args .n) (s .args .h) (s .pre .0 .1 .0) (s .pre .0 .1 .1) a))
+          (c .before .before .encrypt2 .ensures ∙ ap (λ (u : List ℕ). cipherOf (s .args .keys) (s .args .policy) (listedIn (s .args .ids .now)) (s .args .ssrc) (s .args .index) (taggedOf (s .args .policy) u)) (front-is (s .args .n) (s .args .buf .now) ∙ not-added (s .args .policy) (s .args .buf .now) (s .args .n) (s .args .h) (s .pre .0 .1 .0) (s .pre .0 .1 .1) a))
           (back-is (s .args .n) (s .args .buf .now)),
     )
 

@@ -1,7 +1,6 @@
 -- `packet::protect::protect_packet` meets its contract.
-use mathlib.Core.Bool.{false}
 use native.Mathlib.Omega.{arith}
-use lib.ListN.{getD}
+use Rattle.rtp.specs.Mask.{listedIn}
 use Rattle.packet.proofs.Sending.{body-small, sent}
 use borrow.Author.Needs.{needs}
 use Rattle.packet.proofs.protect.protect_packet.Statement.{statement}
@@ -22,7 +21,7 @@ part-code-end c = search needs
 code-requires : tie.Need-code-requires
 code-requires c κs =
     let s = c .before .before .before .before .before .before .before .before in
-    (s .pre .0 .0, body-small (s .args .policy) (s .args .buf .now) (s .args .n) (s .args .h) (s .pre .0 .1 .0) (s .pre .0 .1 .1) (s .args .keys) (λ id. getD (s .args .ids .now) id false) (s .args .ssrc) (s .args .index) _ (c .before .before .before .before .before .encrypt-packet .ensures .0) _ (c .before .before .before .before .before .encrypt-packet .ensures .1))
+    (s .pre .0 .0, body-small (s .args .policy) (s .args .buf .now) (s .args .n) (s .args .h) (s .pre .0 .1 .0) (s .pre .0 .1 .1) (s .args .keys) (listedIn (s .args .ids .now)) (s .args .ssrc) (s .args .index) _ (c .before .before .before .before .before .encrypt-packet .ensures .0) _ (c .before .before .before .before .before .encrypt-packet .ensures .1))
 
 add-put-tag : tie.Need-add-put-tag
 add-put-tag c = search needs
@@ -49,7 +48,7 @@ returns : tie.Need-returns
 returns c =
     let s = c .before .before .before .before .before .before .before .before .before .before .before .before .before in
     let e = c .before .before .before .before .before .before .before .before .before .before .encrypt-packet .ensures in
-    (omega (arith, e .0), sent (s .args .policy) (s .args .buf .now) (s .args .n) (s .args .h) (s .pre .0 .1 .0) (s .pre .0 .1 .1) (s .args .keys) (λ id. getD (s .args .ids .now) id false) (s .args .ssrc) (s .args .index) _ (e .0) _ (e .1) _ _ (c .before .before .before .before .code .ensures) (c .before .before .put-tag .ensures))
+    (omega (arith, e .0), sent (s .args .policy) (s .args .buf .now) (s .args .n) (s .args .h) (s .pre .0 .1 .0) (s .pre .0 .1 .1) (s .args .keys) (listedIn (s .args .ids .now)) (s .args .ssrc) (s .args .index) _ (e .0) _ (e .1) _ _ (c .before .before .before .before .code .ensures) (c .before .before .put-tag .ensures))
 
 pub protect-packet-spec : {M : Type 1} → statement M
 protect-packet-spec =

@@ -1,10 +1,9 @@
 -- `packet::protect::unprotect_packet` meets its contract.
 use mathlib.Core.Path.{_≡_, refl, sym, _∙_}
-use mathlib.Core.Bool.{false}
 use Prim.Native.Nat.{_-_}
 use native.Mathlib.Omega.{arith}
 use borrow.Author.Tests.{not-true, not-false}
-use lib.ListN.{getD}
+use Rattle.rtp.specs.Mask.{listedIn}
 use Rattle.packet.proofs.Arriving.{long, read, fits, small, elements, tag-fits, restored}
 use borrow.Author.Needs.{needs}
 use Rattle.packet.proofs.protect.unprotect_packet.Statement.{statement}
@@ -81,7 +80,7 @@ returns-2 c =
     let s = c .before .before .before .before .before .before .before .before .before .before .before .before .before .before .before in
     let f = tag-fits (s .args .policy) 10 (s .args .buf .now) (s .args .n) (s .args .h) (s .pre .1 .0) (s .pre .1 .1) (s .args .keys) (s .args .index) _ (c .before .before .before .before .before .before .before .before .before .before .code .ensures) in (
       sym (not-false _ (c .before .before .before .before .if1 .left)) ∙ c .before .before .before .before .before .same .ensures ∙ f,
-      restored (s .args .policy) 10 (s .args .buf .now) (s .args .n) (s .args .h) (s .pre .1 .0) (s .pre .1 .1) (s .args .keys) (λ id. getD (s .args .ids .now) id false) (s .args .ssrc) (s .args .index) _ (c .before .before .decrypt .ensures),
+      restored (s .args .policy) 10 (s .args .buf .now) (s .args .n) (s .args .h) (s .pre .1 .0) (s .pre .1 .1) (s .args .keys) (listedIn (s .args .ids .now)) (s .args .ssrc) (s .args .index) _ (c .before .before .decrypt .ensures),
     )
 
 pub unprotect-packet-spec : {M : Type 1} → statement M

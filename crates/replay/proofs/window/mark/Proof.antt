@@ -2,8 +2,8 @@
 use Prim.Native.Nat.{_%_}
 use native.Mathlib.Omega.{arith}
 use borrow.Author.Needs.{needs}
+use Rattle.bits.proofs.Bits.{one-shl}
 use Rattle.replay.specs.Window.{markOf}
-use Rattle.replay.proofs.Bits.{one-shl}
 use Rattle.replay.proofs.window.mark.Statement.{statement}
 use Rattle.replay.proofs.window.mark.Tie as tie
 

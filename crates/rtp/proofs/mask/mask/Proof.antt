@@ -1,18 +1,18 @@
 -- `rtp::mask::mask` meets its contract.
 use mathlib.Core.Path.{sym, _∙_}
-use mathlib.Core.Bool.{false}
 use Prim.Native.Nat.{_+_, _-_}
 use native.Mathlib.Nat.{add-sub-cancel-left}
 use native.Mathlib.Omega.{arith}
 use borrow.Author.Needs.{needs}
 use lib.ListN.{length, getD}
+use Rattle.rtp.specs.Mask.{listedIn}
 use Rattle.rtp.proofs.Stepping.{next-at}
 use Rattle.rtp.proofs.Masking.{Masking, masking-start, masking-end, masking-stop, masking-over, masking-next, lent-back, lengths-agree}
 use Rattle.rtp.proofs.mask.mask.Statement.{statement}
 use Rattle.rtp.proofs.mask.mask.Tie as tie
 
 abbrev Inv-loop : tie.InvT-loop
-Inv-loop block₀ tag listed pad i₀ block i = Masking (λ id. getD listed id false) tag (λ k. getD pad k 0) block₀ block i
+Inv-loop block₀ tag listed pad i₀ block i = Masking (listedIn listed) tag (λ k. getD pad k 0) block₀ block i
 
 abbrev μ-loop : tie.MeasureT-loop
 μ-loop block₀ tag listed pad i₀ block i = length block₀ - i

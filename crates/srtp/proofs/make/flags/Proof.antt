@@ -1,11 +1,9 @@
 -- `srtp::make::flags` meets its contract.
 use mathlib.Core.Path.{_≡_}
 use Prim.Native.Nat.{_≤_, _-_}
-use mir.Syntax.{w8}
-use mir.Val.{Fits}
 use native.Mathlib.Omega.{arith}
 use borrow.Author.Needs.{needs}
-use lib.ListN.{length, getD, take}
+use lib.ListN.{length, take}
 use lib.Seq.{take-all}
 use Rattle.srtp.proofs.Flags.{Flagged, none-flagged, next-flagged, all-flagged}
 use Rattle.srtp.proofs.make.flags.Statement.{statement}
@@ -24,33 +22,37 @@ loop-holds : tie.Need-loop-holds Inv-loop μ-loop
 loop-holds c = (omega arith, rw (c .no-flags .ensures) none-flagged)
 
 shared-slice-read-id : tie.Need-shared-slice-read-id Inv-loop μ-loop
-shared-slice-read-id c = omega arith
+shared-slice-read-id c = search needs
 
-cast-id : tie.Need-cast-id Inv-loop μ-loop
-cast-id c =
-    let byte : Fits w8 (getD (c .before .before .before .before .before .args .ids .now) (c .before .before .loop .i) 0) = search (needs, c .shared-slice-known2 .given, c .before .before .before .before .shared-slice-known .given) in
-    record { fits = omega (arith, byte .fits) }
+cast-place : tie.Need-cast-place Inv-loop μ-loop
+cast-place c = omega (arith, c .shared-slice-known2 .given (c .before .before .loop .i))
+
+mul-with-id : tie.Need-mul-with-id Inv-loop μ-loop
+mul-with-id c = omega (arith, c .shared-slice-known2 .given (c .before .before .loop .i))
+
+array-read-with-id : tie.Need-array-read-with-id Inv-loop μ-loop
+array-read-with-id c = omega (arith, c .shared-slice-known2 .given (c .before .before .loop .i))
+
+with-id-requires : tie.Need-with-id-requires Inv-loop μ-loop
+with-id-requires c κs = search needs
+
+mul-set : tie.Need-mul-set Inv-loop μ-loop
+mul-set c = omega (arith, c .before .shared-slice-known2 .given (c .before .before .before .loop .i))
 
 array-write-set : tie.Need-array-write-set Inv-loop μ-loop
-array-write-set c =
-    let byte : Fits w8 (getD (c .before .before .before .before .before .args .ids .now) (c .before .before .loop .i) 0) = search (needs, c .shared-slice-known2 .given, c .before .before .before .before .shared-slice-known .given) in
-    byte .fits
+array-write-set c = omega (arith, c .before .shared-slice-known2 .given (c .before .before .before .loop .i))
 
 add-i : tie.Need-add-i Inv-loop μ-loop
 add-i c = search needs
 
 loop-less : tie.Need-loop-less Inv-loop μ-loop
-loop-less c = omega arith
+loop-less c = search needs
 
 loop-again : tie.Need-loop-again Inv-loop μ-loop
 loop-again c =
-    let l = c .before .before .loop in
-    let ids = c .before .before .before .before .before .args .ids .now in
-    let byte : Fits w8 (getD ids (l .i) 0) = search (needs, c .shared-slice-known2 .given, c .before .before .before .before .shared-slice-known .given) in
-    (omega arith, next-flagged ids (l .i) (c .before .loop-test .taken) (byte .fits) (l .set) (l .inv .1))
-
-array-write-set-2 : tie.Need-array-write-set-2 Inv-loop μ-loop
-array-write-set-2 c = omega arith
+    let l = c .before .before .before .loop in
+    let ids = c .before .before .before .before .before .before .args .ids .now in
+    (omega arith, rw (c .with-id .ensures) (next-flagged ids (l .i) (c .before .before .loop-test .taken) (omega (arith, c .before .shared-slice-known2 .given (l .i))) (l .set) (l .inv .1)))
 
 returns : tie.Need-returns Inv-loop μ-loop
 returns c =
@@ -68,10 +70,13 @@ flags-spec =
     no-flags-requires
     loop-holds
     shared-slice-read-id
-    cast-id
+    cast-place
+    mul-with-id
+    array-read-with-id
+    with-id-requires
+    mul-set
     array-write-set
     add-i
     loop-less
     loop-again
-    array-write-set-2
     returns)

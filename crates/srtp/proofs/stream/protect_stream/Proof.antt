@@ -1,7 +1,6 @@
 -- `srtp::stream::protect_stream` meets its contract.
 use mathlib.Core.Path.{_∙_}
-use mathlib.Core.Bool.{false}
-use lib.ListN.{getD}
+use Rattle.rtp.specs.Mask.{listedIn}
 use Rattle.srtp.proofs.Streams.{judged-long, sent-small, not-sent, is-sent}
 use borrow.Author.Needs.{needs}
 use Rattle.srtp.proofs.stream.protect_stream.Statement.{statement}
@@ -50,14 +49,14 @@ returns : tie.Need-returns
 returns c =
     let q = c .before .before .before .before in
     let s = q .before .before .before .before .before .before .before .before .before in
-    let w = not-sent (s .args .keys) (s .args .policy) (λ id. getD (s .args .ids .now) id false) (s .args .buf .now) (s .args .n) (s .args .r) _ (q .before .before .before .before .sequence-number .ensures) _ (q .send .ensures) _ (c .before .enum-told .given .1) in
+    let w = not-sent (s .args .keys) (s .args .policy) (listedIn (s .args .ids .now)) (s .args .buf .now) (s .args .n) (s .args .r) _ (q .before .before .before .before .sequence-number .ensures) _ (q .send .ensures) _ (c .before .enum-told .given .1) in
     (c .not-judged .ensures ∙ w .step, w .buffer)
 
 protect-packet-requires : tie.Need-protect-packet-requires
 protect-packet-requires c κs =
     let q = c .before .before .before .before .before in
     let s = q .before .before .before .before .before .before .before .before .before in
-    let i = sent-small (s .args .keys) (s .args .policy) (λ id. getD (s .args .ids .now) id false) (s .args .buf .now) (s .args .n) (s .args .r) _ (q .before .before .before .before .sequence-number .ensures) _ (q .send .ensures) (search (needs, s .good .1 .1 .1 .0)) (search (needs, q .before .before .before .before .sequence-number)) _ (c .before .before .judged .given .1) in
+    let i = sent-small (s .args .keys) (s .args .policy) (listedIn (s .args .ids .now)) (s .args .buf .now) (s .args .n) (s .args .r) _ (q .before .before .before .before .sequence-number .ensures) _ (q .send .ensures) (search (needs, s .good .1 .1 .1 .0)) (search (needs, q .before .before .before .before .sequence-number)) _ (c .before .before .judged .given .1) in
     ((i, s .pre .0), s .pre .1)
 
 same-length-2 : tie.Need-same-length-2
@@ -68,7 +67,7 @@ returns-2 c =
     let p = c .before .before in
     let q = p .before .before .before .before .before .before in
     let s = q .before .before .before .before .before .before .before .before .before in
-    let w = is-sent (s .args .keys) (s .args .policy) (λ id. getD (s .args .ids .now) id false) (s .args .buf .now) (s .args .n) (s .args .r) _ (q .before .before .before .before .sequence-number .ensures) _ (q .send .ensures)
+    let w = is-sent (s .args .keys) (s .args .policy) (listedIn (s .args .ids .now)) (s .args .buf .now) (s .args .n) (s .args .r) _ (q .before .before .before .before .sequence-number .ensures) _ (q .send .ensures)
     _ (p .before .before .before .judged .given .1) (s .args .h) (s .pre .0 .1) _ (q .before .ssrc .ensures) _ (p .protect-packet .ensures .0) _ (p .protect-packet .ensures .1) in
     (w .step, w .buffer)
 

@@ -1,8 +1,7 @@
 -- `srtp::stream::unprotect_stream` meets its contract.
 use mathlib.Core.Path.{_∙_}
-use mathlib.Core.Bool.{false}
 use borrow.Author.Tests.{not-true, not-false}
-use lib.ListN.{getD}
+use Rattle.rtp.specs.Mask.{listedIn}
 use Rattle.srtp.proofs.Streams.{judged-long, past-tag, received-small, not-received, wrong-tag, is-received}
 use borrow.Author.Needs.{needs}
 use Rattle.srtp.proofs.stream.unprotect_stream.Statement.{statement}
@@ -51,14 +50,14 @@ returns : tie.Need-returns
 returns c =
     let q = c .before .before .before .before in
     let s = q .before .before .before .before .before .before .before .before .before in
-    let w = not-received (s .args .keys) (s .args .policy) (λ id. getD (s .args .ids .now) id false) (s .args .buf .now) (s .args .n) (s .args .r) _ (q .before .before .before .before .sequence-number .ensures) _ (q .receive .ensures) _ (c .before .enum-told .given .1) in
+    let w = not-received (s .args .keys) (s .args .policy) (listedIn (s .args .ids .now)) (s .args .buf .now) (s .args .n) (s .args .r) _ (q .before .before .before .before .sequence-number .ensures) _ (q .receive .ensures) _ (c .before .enum-told .given .1) in
     (c .not-judged .ensures ∙ w .step, w .buffer)
 
 unprotect-packet-requires : tie.Need-unprotect-packet-requires
 unprotect-packet-requires c κs =
     let q = c .before .before .before .before .before in
     let s = q .before .before .before .before .before .before .before .before .before in
-    let i = received-small (s .args .keys) (s .args .policy) (λ id. getD (s .args .ids .now) id false) (s .args .buf .now) (s .args .n) (s .args .r) _ (q .before .before .before .before .sequence-number .ensures) _ (q .receive .ensures) (search (needs, s .good .1 .1 .1 .0)) (search (needs, q .before .before .before .before .sequence-number)) _ (c .before .before .judged .given .1) in
+    let i = received-small (s .args .keys) (s .args .policy) (listedIn (s .args .ids .now)) (s .args .buf .now) (s .args .n) (s .args .r) _ (q .before .before .before .before .sequence-number .ensures) _ (q .receive .ensures) (search (needs, s .good .1 .1 .1 .0)) (search (needs, q .before .before .before .before .sequence-number)) _ (c .before .before .judged .given .1) in
     (i, s .pre)
 
 number-requires : tie.Need-number-requires
@@ -72,7 +71,7 @@ returns-2 c =
     let p = c .before .before .before .before in
     let q = p .before .before .before .before .before .before in
     let s = q .before .before .before .before .before .before .before .before .before in
-    let w = wrong-tag (s .args .keys) (s .args .policy) (λ id. getD (s .args .ids .now) id false) (s .args .buf .now) (s .args .n) (s .args .r) _ (q .before .before .before .before .sequence-number .ensures) _ (q .receive .ensures) _ (p .before .before .before .judged .given .1) _ (p .unprotect-packet .ensures .0) _ (q .before .ssrc .ensures) _ (p .unprotect-packet .ensures .1) (not-true _ (c .before .if1 .taken)) in
+    let w = wrong-tag (s .args .keys) (s .args .policy) (listedIn (s .args .ids .now)) (s .args .buf .now) (s .args .n) (s .args .r) _ (q .before .before .before .before .sequence-number .ensures) _ (q .receive .ensures) _ (p .before .before .before .judged .given .1) _ (p .unprotect-packet .ensures .0) _ (q .before .ssrc .ensures) _ (p .unprotect-packet .ensures .1) (not-true _ (c .before .if1 .taken)) in
     (rw (c .number .ensures) (w .step), w .buffer)
 
 sub-t16 : tie.Need-sub-t16
@@ -86,7 +85,7 @@ returns-3 c =
     let p = c .before .before .before in
     let q = p .before .before .before .before .before .before in
     let s = q .before .before .before .before .before .before .before .before .before in
-    let w = is-received (s .args .keys) (s .args .policy) (λ id. getD (s .args .ids .now) id false) (s .args .buf .now) (s .args .n) (s .args .r) _ (q .before .before .before .before .sequence-number .ensures) _ (q .receive .ensures) _ (p .before .before .before .judged .given .1) _ (p .unprotect-packet .ensures .0) _ (q .before .ssrc .ensures) _ (p .unprotect-packet .ensures .1) (not-false _ (c .if1 .left)) in
+    let w = is-received (s .args .keys) (s .args .policy) (listedIn (s .args .ids .now)) (s .args .buf .now) (s .args .n) (s .args .r) _ (q .before .before .before .before .sequence-number .ensures) _ (q .receive .ensures) _ (p .before .before .before .judged .given .1) _ (p .unprotect-packet .ensures .0) _ (q .before .ssrc .ensures) _ (p .unprotect-packet .ensures .1) (not-false _ (c .if1 .left)) in
     (w .step, w .buffer)
 
 pub unprotect-stream-spec : {M : Type 1} → statement M
