@@ -78,7 +78,7 @@ pub fn begin(table: &[u8; 2048], keys: &[[[u8; 4]; 4]; 11], block: [[u8; 4]; 4])
 }
 
 // The state after the second round, of the block that ends with the bytes x and y.
-pub fn two_rounds(
+pub(crate) fn two_rounds(
     table: &[u8; 2048],
     keys: &[[[u8; 4]; 4]; 11],
     begun: Begun,

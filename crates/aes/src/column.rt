@@ -9,6 +9,7 @@ ghost use Rattle.bits.specs.Xor.{xorList};
 ghost use Rattle.aes.specs.Cipher.{sboxOf, mixColumn, addRoundKey};
 ghost use Rattle.aes.specs.Steps.{RoundTable, unpackOf, row0Of, row1Of, row2Of, row3Of};
 
+// Four bytes of an entry, as a column kept as one number.
 fn four(table: &[u8; 2048], at: usize) -> u32
     requires { ⌜ at + 4 ≤ 2048 ⌝ }
     ensures { λ r. ⌜ unpackOf r ≡ tabulate 4 (λ i. getD (now (table .entry)) (at + i) 0) ⌝ }
@@ -16,6 +17,7 @@ fn four(table: &[u8; 2048], at: usize) -> u32
     word::pack([table[at], table[at + 1], table[at + 2], table[at + 3]])
 }
 
+// What x brings in row 0, and so for the others.
 pub fn row0(table: &[u8; 2048], x: u8) -> u32
     requires { ⌜ RoundTable (now table) ⌝ }
     ensures { λ r. ⌜ unpackOf r ≡ row0Of (sboxOf x) ⌝ }
@@ -44,8 +46,8 @@ pub fn row3(table: &[u8; 2048], x: u8) -> u32
     four(table, 8 * (x as usize) + 1)
 }
 
-// The whole column: SubBytes, MixColumns and AddRoundKey, for the four bytes that ShiftRows brings together. The order of the
-// sum is that in which its parts are at hand soonest.
+// The whole column: SubBytes, MixColumns and AddRoundKey, for the four bytes that ShiftRows brings together. The order of the sum
+// is the fastest of those that were tried.
 pub fn round_column(table: &[u8; 2048], a: u8, b: u8, c: u8, d: u8, k: [u8; 4]) -> [u8; 4]
     requires { ⌜ RoundTable (now table) ⌝ }
     ensures { λ r. ⌜ r ≡ xorList (mixColumn (sboxOf a) (sboxOf b) (sboxOf c) (sboxOf d)) k ⌝ }
