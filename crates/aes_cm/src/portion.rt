@@ -10,10 +10,41 @@ ghost use mathlib.Core.Path.{_≡_};
 ghost use Prim.Native.Nat.{_^_, _≤_, _<_};
 ghost use lib.ListN.{length};
 ghost use Rattle.bits.specs.Xor.{xorPad};
+ghost use Rattle.aes.specs.Steps.{SboxTable, RoundTable};
 ghost use Rattle.aes_cm.specs.Keystream.{keystreamOf, portionPad};
 
 // The bytes from `first` up to `stop` and from `rest` on continue one keystream. A block that both sides share is made once.
 // RFC 3711 allows 2^16 blocks of keystream for a packet, 2^20 bytes; a packet here has at most 2,048.
+fn portion_by(
+    sbox: &[u8; 256],
+    table: &[u8; 2048],
+    key: [u8; 16],
+    salt: [u8; 14],
+    ssrc: u32,
+    index: u64,
+    buf: &mut [u8],
+    first: usize,
+    stop: usize,
+    rest: usize,
+)
+    requires { ⌜ SboxTable (now sbox) ⌝ }
+    requires { ⌜ RoundTable (now table) ⌝ }
+    requires { ⌜ (index < 2 ^ 48) × ((first ≤ stop) × ((stop ≤ rest) × ((rest ≤ length (now buf)) × (length (now buf) ≤ 2 ^ 20)))) ⌝ }
+    ensures { λ _. ⌜ now (buf .exit) ≡ xorPad (portionPad first stop rest (keystreamOf key salt ssrc index)) (now (buf .entry)) ⌝ }
+{
+    let keys = expand(sbox, state(key));
+    let v = iv(salt, ssrc, index);
+    let begun = begin(table, &keys, v);
+    let n = buf.len();
+    let s = Keystream {
+        block: [0u8; 16],
+        at: 0,
+    };
+    let t = xor_stretch(sbox, table, &keys, begun, buf, first, stop, s);
+    xor_stretch(sbox, table, &keys, begun, buf, rest, n, t);
+}
+
+// The same where one keystream is all that is needed: the tables are made here.
 pub fn xor_portion(
     key: [u8; 16],
     salt: [u8; 14],
@@ -29,14 +60,51 @@ pub fn xor_portion(
 {
     let sbox = tables::sbox();
     let table = tables::round_table();
-    let keys = expand(&sbox, state(key));
-    let v = iv(salt, ssrc, index);
-    let begun = begin(&table, &keys, v);
-    let n = buf.len();
-    let s = Keystream {
-        block: [0u8; 16],
-        at: 0,
-    };
-    let t = xor_stretch(&sbox, &table, &keys, begun, buf, first, stop, s);
-    xor_stretch(&sbox, &table, &keys, begun, buf, rest, n, t);
+    portion_by(
+        &sbox,
+        &table,
+        key,
+        salt,
+        ssrc,
+        index,
+        buf,
+        first,
+        stop,
+        rest,
+    );
+}
+
+// Two keystreams of one packet: that of the header key and salt onto all of `header`, and that of `key` and `salt` onto `buf` from byte `rest` on.
+// Tables are written to the stack anew wherever they are made, so they are made once for both.
+pub fn xor_two(
+    header_key: [u8; 16],
+    header_salt: [u8; 14],
+    header: &mut [u8],
+    key: [u8; 16],
+    salt: [u8; 14],
+    buf: &mut [u8],
+    rest: usize,
+    ssrc: u32,
+    index: u64,
+)
+    requires { ⌜ (index < 2 ^ 48) × (length (now header) ≤ 2 ^ 20) ⌝ }
+    requires { ⌜ (rest ≤ length (now buf)) × (length (now buf) ≤ 2 ^ 20) ⌝ }
+    ensures { λ _. ⌜ now (header .exit) ≡ xorPad (portionPad 0 0 0 (keystreamOf «header_key» «header_salt» ssrc index)) (now (header .entry)) ⌝ }
+    ensures { λ _. ⌜ now (buf .exit) ≡ xorPad (portionPad rest rest rest (keystreamOf key salt ssrc index)) (now (buf .entry)) ⌝ }
+{
+    let sbox = tables::sbox();
+    let table = tables::round_table();
+    portion_by(
+        &sbox,
+        &table,
+        header_key,
+        header_salt,
+        ssrc,
+        index,
+        header,
+        0,
+        0,
+        0,
+    );
+    portion_by(&sbox, &table, key, salt, ssrc, index, buf, rest, rest, rest);
 }

@@ -47,8 +47,8 @@ module _ (z x : List ℕ) (n : ℕ) (stream : ℕ → ℕ) (e : z ≡ replicate 
       ap length made ∙ length-pad (portionPad 0 0 0 stream) (take (n - 0) (drop 0 z))
       ∙ length-take-le (n - 0) (drop 0 z) (omega arith) ∙ omega arith
 
-  pub long-enough : (r : List ℕ) → n ≤ length (x ++ r)
-  long-enough r = let m : length (x ++ r) ≡ length x + length r = length-append x r in omega (arith, count)
+  pub long-enough : (k : ℕ) (r : List ℕ) → k ≡ n → k ≤ length (x ++ r)
+  long-enough k r c = let m : length (x ++ r) ≡ length x + length r = length-append x r in omega (arith, count)
 
   zero-at : (k : ℕ) → k < n → getD (take (n - 0) (drop 0 z)) k 0 ≡ 0
   zero-at k h = getD-take (n - 0) (drop 0 z) k 0 (omega arith) ∙ ap (λ (l : List ℕ). getD l k 0) e ∙ getD-replicate (length z) k 0 0 (omega arith)

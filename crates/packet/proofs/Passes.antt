@@ -1,5 +1,5 @@
--- The cipher as the code's passes: over a portion, and before that over the block under the mask.
-use mathlib.Core.Path.{_≡_, ap, _∙_}
+-- The cipher as the code's passes: over a portion, and after that, under the mask, over the block.
+use mathlib.Core.Path.{_≡_, refl, ap, _∙_}
 use mathlib.Core.Bool.{Bool, true, false}
 use mathlib.Core.Logic.{_⊎_, inl, inr}
 use mathlib.Core.List.{List, _++_}
@@ -8,8 +8,9 @@ use native.Mathlib.Decide.{decLt}
 use native.Mathlib.Omega.{arith}
 use borrow.Author.Tests.{lt-ltb, le-ltb}
 use lib.ListN.{length, take, drop, length-take, length-drop}
+use lib.Seq.{length-take-le}
 use Rattle.bits.specs.Xor.{xorPad}
-use Rattle.bits.proofs.Xor.{length-pad, pad-ext}
+use Rattle.bits.proofs.Xor.{length-pad, pad-ext, pad-none}
 use Rattle.aes_cm.specs.Keystream.{portionPad}
 use Rattle.aes_cm.specs.Steps.{stretchPad}
 use Rattle.aes_cm.proofs.Stretches.{pad-join, at-before, at-past, at-in, stretch-part}
@@ -25,6 +26,7 @@ use Rattle.packet.specs.Cryptex.{isCryptex}
 use Rattle.packet.specs.Judging.{elementsFit}
 use Rattle.packet.specs.Policies.{usesMask}
 use Rattle.packet.proofs.Layouts.{apart, Sound, sound}
+use Rattle.packet.proofs.Pads.{take-pad, drop-pad}
 
 pub sound-read : (p : List ℕ) (h : Layout) → h ≡ layoutOf p → Sound h
 sound-read p h e = rw e (sound p)
@@ -32,17 +34,28 @@ sound-read p h e = rw e (sound p)
 pub whole-block : (policy : Policy) (h : Layout) (p : List ℕ) → usesMask policy ≡ true → elementsFit policy h p ≡ true → wholeOf (h .tag) (blockOf h p) ≡ true
 whole-block policy h p m e = rw m at e
 
-pub block-length : (h : Layout) (p : List ℕ) → length (blockOf h p) ≤ length p
-block-length h p =
-    let n : length (blockOf h p) ≡ min (h .payload - h .block) (length (drop (h .block) p)) = length-take (h .payload - h .block) (drop (h .block) p) in
-    let m : length (drop (h .block) p) ≡ length p - h .block = length-drop (h .block) p in
-    omega arith
-
 -- the portion lies in order within the packet
 pub portion-order : (c : Bool) (h : Layout) (n : ℕ) → Sound h → h .payload ≤ n
     → (portionOf c h .first ≤ portionOf c h .stop) × ((portionOf c h .stop ≤ portionOf c h .rest) × (portionOf c h .rest ≤ n))
 portion-order true h n s f = omega (arith, s .contributors, s .count, s .block, s .payload)
 portion-order false h n s f = omega arith
+
+-- q is the packet once its payload is encrypted: that keystream leaves the block as it is
+module _ (h : Layout) (stream : ℕ → ℕ) (p q : List ℕ) (e : q ≡ xorPad (portionPadOf (portionOf false h) stream) p) where
+  block-stays : blockOf h q ≡ blockOf h p
+  unfolding portionPad
+  block-stays =
+      let m : length (blockOf h p) ≡ min (h .payload - h .block) (length (drop (h .block) p)) = length-take (h .payload - h .block) (drop (h .block) p) in
+      let pad = portionPadOf (portionOf false h) stream in
+      ap (blockOf h) e ∙ ap (take (h .payload - h .block)) (drop-pad (h .block) pad p)
+      ∙ take-pad (h .payload - h .block) (λ i. pad (h .block + i)) (drop (h .block) p)
+      ∙ pad-none (λ i. pad (h .block + i)) (blockOf h p) (λ i b. simp (lt-ltb (h .block + i) (h .payload) (omega arith)))
+
+  pub whole-stays : wholeOf (h .tag) (blockOf h p) ≡ true → wholeOf (h .tag) (blockOf h q) ≡ true
+  whole-stays w = ap (wholeOf (h .tag)) block-stays ∙ w
+
+  pub size-stays : Sound h → h .payload ≤ length p → length (blockOf h q) ≡ h .payload - h .block
+  size-stays s f = ap length block-stays ∙ length-take-le (h .payload - h .block) (drop (h .block) p) (simp length-drop (omega (arith, s .payload)))
 
 module _ (listed : ℕ → Bool) (stream header-stream : ℕ → ℕ) (p : List ℕ) where
   pub one-pass : (policy : Policy) → usesMask policy ≡ false
@@ -51,74 +64,68 @@ module _ (listed : ℕ → Bool) (stream header-stream : ℕ → ℕ) (p : List 
   one-pass policy m =
       pad-ext (portionPadOf (portionOf (isCryptex policy (layoutOf p)) (layoutOf p)) stream) (padOf policy listed stream header-stream p) p (λ i b. rw m)
 
+  pub under-mask : (policy : Policy) → usesMask policy ≡ true → cryptedOf Mask listed stream header-stream p ≡ cryptedOf policy listed stream header-stream p
+  under-mask Plain e = apart cc
+  under-mask Cryptex e = apart cc
+  under-mask CryptexRequired e = apart cc
+  under-mask Mask e = refl
+
   blockPad : ℕ → ℕ
   blockPad = maskedPad (maskOf listed (layoutOf p .tag) (blockOf (layoutOf p) p)) header-stream
 
   both-passes : (i : ℕ)
-      → ((stretchPad (layoutOf p .block) (layoutOf p .payload) 0 blockPad i ≡ 0)
-      × (portionPadOf (portionOf false (layoutOf p)) stream i ≡ padOf Mask listed stream header-stream p i))
-      ⊎ ((portionPadOf (portionOf false (layoutOf p)) stream i ≡ 0)
+      → ((portionPadOf (portionOf false (layoutOf p)) stream i ≡ 0)
       × (stretchPad (layoutOf p .block) (layoutOf p .payload) 0 blockPad i ≡ padOf Mask listed stream header-stream p i))
+      ⊎ ((stretchPad (layoutOf p .block) (layoutOf p .payload) 0 blockPad i ≡ 0)
+      × (portionPadOf (portionOf false (layoutOf p)) stream i ≡ padOf Mask listed stream header-stream p i))
   unfolding padOf portionPad blockPad
   both-passes i =
       let s = sound p in
       elim (decLt i (layoutOf p .payload)) [
         | yes u ↦ elim (decLt i (layoutOf p .block)) [
-          | yes v ↦ inr (
+          | yes v ↦ inl (
             simp (lt-ltb i (layoutOf p .payload) u),
             at-before (layoutOf p .block) (layoutOf p .payload) 0 blockPad i v ∙ simp (lt-ltb i (layoutOf p .payload) u, lt-ltb i (layoutOf p .block) v),
           )
-          | no v ↦ inr (
+          | no v ↦ inl (
             simp (lt-ltb i (layoutOf p .payload) u),
             at-in (layoutOf p .block) (layoutOf p .payload) 0 blockPad i (i - layoutOf p .block) (omega arith) u (omega arith)
                 ∙ simp (lt-ltb i (layoutOf p .payload) u, le-ltb i (layoutOf p .block) (omega arith)),
           )
         ]
-        | no u ↦ inl (
+        | no u ↦ inr (
           at-past (layoutOf p .block) (layoutOf p .payload) 0 blockPad i (omega (arith, s .payload)) (omega arith),
           simp (le-ltb i (layoutOf p .payload) (omega arith)),
         )
       ]
 
-  -- the block, lent and masked
-  module _ (fits : layoutOf p .payload ≤ length p) (ys : List ℕ) (m : ys ≡ maskedOf listed (layoutOf p .tag) header-stream (blockOf (layoutOf p) p)) where
-    abbrev after : List ℕ
-    after = take (layoutOf p .block) p ++ (ys ++ drop (layoutOf p .payload - layoutOf p .block) (drop (layoutOf p .block) p))
-
-    masked : after ≡ xorPad (stretchPad (layoutOf p .block) (layoutOf p .payload) 0 blockPad) p
+  -- the packet once its payload is encrypted, whose block is lent and masked
+  module _ (fits : layoutOf p .payload ≤ length p) (q ys : List ℕ) (e : q ≡ xorPad (portionPadOf (portionOf false (layoutOf p)) stream) p)
+      (m : ys ≡ maskedOf listed (layoutOf p .tag) header-stream (blockOf (layoutOf p) q)) where
+    masked : take (layoutOf p .block) q ++ (ys ++ drop (layoutOf p .payload - layoutOf p .block) (drop (layoutOf p .block) q))
+        ≡ xorPad (stretchPad (layoutOf p .block) (layoutOf p .payload) 0 blockPad) q
     unfolding maskedOf blockPad
     masked =
         let s = sound p in
-        stretch-part (layoutOf p .block) (layoutOf p .payload) 0 blockPad p ys (s .payload) fits
-        (m ∙ pad-ext blockPad (λ k. blockPad (0 + k)) (blockOf (layoutOf p) p) (λ k h. ap blockPad (omega arith)))
+        let n : length q ≡ length p = ap length e ∙ length-pad (portionPadOf (portionOf false (layoutOf p)) stream) p in
+        stretch-part (layoutOf p .block) (layoutOf p .payload) 0 blockPad q ys (s .payload) (omega arith)
+        (m ∙ ap (λ (l : List ℕ). xorPad (maskedPad (maskOf listed (layoutOf p .tag) l) header-stream) (blockOf (layoutOf p) q)) (block-stays (layoutOf p) stream p q e)
+        ∙ pad-ext blockPad (λ k. blockPad (0 + k)) (blockOf (layoutOf p) q) (λ k h. ap blockPad (omega arith)))
 
-    pub masked-length : length after ≡ length p
-    masked-length = ap length masked ∙ length-pad (stretchPad (layoutOf p .block) (layoutOf p .payload) 0 blockPad) p
-
-    two-passes : xorPad (portionPadOf (portionOf false (layoutOf p)) stream) after ≡ cryptedOf Mask listed stream header-stream p
+    pub two-passes : take (layoutOf p .block) q ++ (ys ++ drop (layoutOf p .payload - layoutOf p .block) (drop (layoutOf p .block) q))
+        ≡ cryptedOf Mask listed stream header-stream p
     unfolding cryptedOf
     two-passes =
-        ap (xorPad (portionPadOf (portionOf false (layoutOf p)) stream)) masked
-        ∙ pad-join (stretchPad (layoutOf p .block) (layoutOf p .payload) 0 blockPad) (portionPadOf (portionOf false (layoutOf p)) stream) (padOf Mask listed stream header-stream p) p (λ i b. both-passes i)
-
-    pub two-passes-by : (policy : Policy) → usesMask policy ≡ true
-        → xorPad (portionPadOf (portionOf false (layoutOf p)) stream) after ≡ cryptedOf policy listed stream header-stream p
-    two-passes-by Plain e = apart cc
-    two-passes-by Cryptex e = apart cc
-    two-passes-by CryptexRequired e = apart cc
-    two-passes-by Mask e = two-passes
+        masked ∙ ap (xorPad (stretchPad (layoutOf p .block) (layoutOf p .payload) 0 blockPad)) e
+        ∙ pad-join (portionPadOf (portionOf false (layoutOf p)) stream) (stretchPad (layoutOf p .block) (layoutOf p .payload) 0 blockPad) (padOf Mask listed stream header-stream p) p (λ i b. both-passes i)
 
 -- ---- as the code has it: h is the layout that was read, r the portion, q what came out
-module _ (listed : ℕ → Bool) (stream header-stream : ℕ → ℕ) (p : List ℕ) (h : Layout) (read : h ≡ layoutOf p) (policy : Policy) where
-  pub crypted-plain : usesMask policy ≡ false → (c : Bool) (r : Portion) (q : List ℕ) → c ≡ isCryptex policy h → r ≡ portionOf c h
+module _ (listed : ℕ → Bool) (stream header-stream : ℕ → ℕ) (p : List ℕ) (h : Layout) (read : h ≡ layoutOf p) where
+  pub crypted-plain : (policy : Policy) → usesMask policy ≡ false → (c : Bool) (r : Portion) (q : List ℕ) → c ≡ isCryptex policy h → r ≡ portionOf c h
       → q ≡ xorPad (portionPadOf r stream) p → q ≡ cryptedOf policy listed stream header-stream p
-  crypted-plain m c r q ec er eq = eq ∙ rw (er, ec, read) (one-pass listed stream header-stream p policy m)
+  crypted-plain policy m c r q ec er eq = eq ∙ rw (er, ec, read) (one-pass listed stream header-stream p policy m)
 
-  module _ (fits : h .payload ≤ length p) (ys : List ℕ) (m : ys ≡ maskedOf listed (h .tag) header-stream (blockOf h p)) where
-    pub masked-size : length (take (h .block) p ++ (ys ++ drop (h .payload - h .block) (drop (h .block) p))) ≡ length p
-    masked-size = rw read (masked-length listed stream header-stream p (rw read at fits) ys (rw read at m))
-
-    pub crypted-masked : usesMask policy ≡ true → (r : Portion) (q : List ℕ) → r ≡ portionOf false h
-        → q ≡ xorPad (portionPadOf r stream) (take (h .block) p ++ (ys ++ drop (h .payload - h .block) (drop (h .block) p)))
-        → q ≡ cryptedOf policy listed stream header-stream p
-    crypted-masked u r q er eq = eq ∙ rw (er, read) (two-passes-by listed stream header-stream p (rw read at fits) ys (rw read at m) policy u)
+  pub crypted-masked : h .payload ≤ length p → (q ys : List ℕ) → q ≡ xorPad (portionPadOf (portionOf false h) stream) p
+      → ys ≡ maskedOf listed (h .tag) header-stream (blockOf h q)
+      → take (h .block) q ++ (ys ++ drop (h .payload - h .block) (drop (h .block) q)) ≡ cryptedOf Mask listed stream header-stream p
+  crypted-masked fits q ys e m = rw read (two-passes listed stream header-stream p (rw read at fits) q ys (rw read at e) (rw read at m))

@@ -4,16 +4,18 @@ use crate::policy::Policy;
 use crate::tag::is_cryptex;
 use crate::uses::uses_mask;
 use aes_cm::portion::xor_portion;
+use aes_cm::portion::xor_two;
 use rtp::header::Layout;
 use rtp::mask::mask;
 ghost use mathlib.Core.Path.{_≡_};
 ghost use mathlib.Core.Bool.{true};
-ghost use Prim.Native.Nat.{_^_, _≤_, _<_};
+ghost use Prim.Native.Nat.{_-_, _^_, _≤_, _<_};
 ghost use lib.ListN.{length, replicate};
 ghost use Rattle.bits.specs.Xor.{xorPad};
 ghost use Rattle.rtp.specs.Elements.{wholeOf};
-ghost use Rattle.rtp.specs.Header.{layoutOf};
-ghost use Rattle.rtp.specs.Mask.{listedIn, maskedOf};
+ghost use Rattle.rtp.specs.Header.{layoutOf, blockOf};
+ghost use Rattle.rtp.specs.Mask.{listedIn};
+ghost use Rattle.packet.specs.declared.policy.Policy.the-variants.{Mask};
 ghost use Rattle.packet.specs.Cipher.{portionOf, portionPadOf};
 ghost use Rattle.packet.specs.Judging.{elementsFit};
 ghost use Rattle.packet.specs.Wire.{streamOf, headerStreamOf, cipherOf};
@@ -54,39 +56,56 @@ fn long_zeros() -> [u8; 2048]
     [0u8; 2048]
 }
 
-// The header keystream on a block, under its mask. The keystream is made in `pad`, which holds zeros.
-fn mask_by(
+// Under the mask: the payload, and the block of the header extension with a keystream of its own. That one is made in `pad`, which holds zeros.
+// The payload's keystream leaves the block as it is, so the block can be masked after it.
+fn crypt_masked_by(
     keys: Keys,
     ids: &[u64; 4],
     ssrc: u32,
     index: u64,
-    block: &mut [u8],
-    tag: u16,
+    packet: &mut [u8],
+    h: Layout,
     pad: &mut [u8],
 )
-    requires { ⌜ (index < 2 ^ 48) × ((length (now block) ≤ 2048) × (wholeOf tag (now block) ≡ true)) ⌝ }
-    requires { ⌜ (now pad ≡ replicate (length (now pad)) 0) × (length (now block) ≤ length (now pad)) ⌝ }
-    ensures { λ _. ⌜ now (block .exit) ≡ maskedOf (listedIn (now (ids .entry))) tag (headerStreamOf keys ssrc index) (now (block .entry)) ⌝ }
+    requires { ⌜ (h ≡ layoutOf (now packet)) × ((h .payload ≤ length (now packet)) × (length (now packet) ≤ 2048)) ⌝ }
+    requires { ⌜ (index < 2 ^ 48) × (wholeOf (h .tag) (blockOf h (now packet)) ≡ true) ⌝ }
+    requires { ⌜ (now pad ≡ replicate (length (now pad)) 0) × (h .payload - h .block ≤ length (now pad)) ⌝ }
+    ensures { λ _. ⌜ now (packet .exit) ≡ cipherOf keys Mask (listedIn (now (ids .entry))) ssrc index (now (packet .entry)) ⌝ }
 {
-    let n = block.len();
-    let key = keys.header_cipher;
-    let salt = keys.header_salt;
-    xor_portion(key, salt, ssrc, index, &mut pad[0..n], 0, 0, 0);
-    mask(block, tag, ids, pad);
+    let block = h.block;
+    let payload = h.payload;
+    let n = payload - block;
+    let header_key = keys.header_cipher;
+    let header_salt = keys.header_salt;
+    let key = keys.cipher;
+    let salt = keys.salt;
+    xor_two(
+        header_key,
+        header_salt,
+        &mut pad[0..n],
+        key,
+        salt,
+        packet,
+        payload,
+        ssrc,
+        index,
+    );
+    mask(&mut packet[block..payload], h.tag, ids, pad);
 }
 
 // Most blocks have at most 64 bytes, for which a short pad will do.
-fn mask_block(keys: Keys, ids: &[u64; 4], ssrc: u32, index: u64, block: &mut [u8], tag: u16)
-    requires { ⌜ (index < 2 ^ 48) × ((length (now block) ≤ 2048) × (wholeOf tag (now block) ≡ true)) ⌝ }
-    ensures { λ _. ⌜ now (block .exit) ≡ maskedOf (listedIn (now (ids .entry))) tag (headerStreamOf keys ssrc index) (now (block .entry)) ⌝ }
+fn crypt_masked(keys: Keys, ids: &[u64; 4], ssrc: u32, index: u64, packet: &mut [u8], h: Layout)
+    requires { ⌜ (h ≡ layoutOf (now packet)) × ((h .payload ≤ length (now packet)) × (length (now packet) ≤ 2048)) ⌝ }
+    requires { ⌜ (index < 2 ^ 48) × (wholeOf (h .tag) (blockOf h (now packet)) ≡ true) ⌝ }
+    ensures { λ _. ⌜ now (packet .exit) ≡ cipherOf keys Mask (listedIn (now (ids .entry))) ssrc index (now (packet .entry)) ⌝ }
 {
-    if block.len() <= 64 {
+    if h.payload - h.block <= 64 {
         let mut short = short_zeros();
-        mask_by(keys, ids, ssrc, index, block, tag, &mut short);
+        crypt_masked_by(keys, ids, ssrc, index, packet, h, &mut short);
         return;
     }
     let mut long = long_zeros();
-    mask_by(keys, ids, ssrc, index, block, tag, &mut long);
+    crypt_masked_by(keys, ids, ssrc, index, packet, h, &mut long);
 }
 
 // The keystream on a portion of a packet.
@@ -115,10 +134,7 @@ pub fn crypt(
     ensures { λ _. ⌜ now (packet .exit) ≡ cipherOf keys policy (listedIn (now (ids .entry))) ssrc index (now (packet .entry)) ⌝ }
 {
     if uses_mask(policy) {
-        let block = h.block;
-        let payload = h.payload;
-        mask_block(keys, ids, ssrc, index, &mut packet[block..payload], h.tag);
-        xor_packet(keys, ssrc, index, packet, encrypted_portion(false, h));
+        crypt_masked(keys, ids, ssrc, index, packet, h);
         return;
     }
     xor_packet(

@@ -1,5 +1,6 @@
 // RFC 3711, appendices B.2 (keystream) and B.3 (key derivation).
 use crate::print;
+use aes::begin::begin;
 use aes::key_schedule::expand;
 use aes::tables;
 use aes_cm::counter::iv;
@@ -15,7 +16,8 @@ fn block(j: usize) -> [u8; 16] {
     let key = *b"\x2b\x7e\x15\x16\x28\xae\xd2\xa6\xab\xf7\x15\x88\x09\xcf\x4f\x3c";
     let salt = *b"\xf0\xf1\xf2\xf3\xf4\xf5\xf6\xf7\xf8\xf9\xfa\xfb\xfc\xfd";
     let keys = expand(&sbox, state(key));
-    keystream_block(&sbox, &table, &keys, iv(salt, 0, 0), j)
+    let begun = begin(&table, &keys, iv(salt, 0, 0));
+    keystream_block(&sbox, &table, &keys, begun, j)
 }
 
 fn keystream() {
