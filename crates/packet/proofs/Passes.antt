@@ -64,6 +64,7 @@ module _ (listed : ℕ → Bool) (stream header-stream : ℕ → ℕ) (p : List 
   one-pass policy m =
       pad-ext (portionPadOf (portionOf (isCryptex policy (layoutOf p)) (layoutOf p)) stream) (padOf policy listed stream header-stream p) p (λ i b. rw m)
 
+  -- only one policy uses the mask
   pub under-mask : (policy : Policy) → usesMask policy ≡ true → cryptedOf Mask listed stream header-stream p ≡ cryptedOf policy listed stream header-stream p
   under-mask Plain e = apart cc
   under-mask Cryptex e = apart cc
@@ -119,12 +120,14 @@ module _ (listed : ℕ → Bool) (stream header-stream : ℕ → ℕ) (p : List 
         masked ∙ ap (xorPad (stretchPad (layoutOf p .block) (layoutOf p .payload) 0 blockPad)) e
         ∙ pad-join (portionPadOf (portionOf false (layoutOf p)) stream) (stretchPad (layoutOf p .block) (layoutOf p .payload) 0 blockPad) (padOf Mask listed stream header-stream p) p (λ i b. both-passes i)
 
--- ---- as the code has it: h is the layout that was read, r the portion, q what came out
+-- ---- as the code has it: h is the layout that was read
 module _ (listed : ℕ → Bool) (stream header-stream : ℕ → ℕ) (p : List ℕ) (h : Layout) (read : h ≡ layoutOf p) where
+  -- r is the portion, q what came out
   pub crypted-plain : (policy : Policy) → usesMask policy ≡ false → (c : Bool) (r : Portion) (q : List ℕ) → c ≡ isCryptex policy h → r ≡ portionOf c h
       → q ≡ xorPad (portionPadOf r stream) p → q ≡ cryptedOf policy listed stream header-stream p
   crypted-plain policy m c r q ec er eq = eq ∙ rw (er, ec, read) (one-pass listed stream header-stream p policy m)
 
+  -- q is the packet once its payload is encrypted, ys its block once that is masked
   pub crypted-masked : h .payload ≤ length p → (q ys : List ℕ) → q ≡ xorPad (portionPadOf (portionOf false h) stream) p
       → ys ≡ maskedOf listed (h .tag) header-stream (blockOf h q)
       → take (h .block) q ++ (ys ++ drop (h .payload - h .block) (drop (h .block) q)) ≡ cryptedOf Mask listed stream header-stream p

@@ -18,7 +18,7 @@ ghost use Rattle.rtp.specs.Mask.{listedIn};
 ghost use Rattle.packet.specs.declared.policy.Policy.the-variants.{Mask};
 ghost use Rattle.packet.specs.Cipher.{portionOf, portionPadOf};
 ghost use Rattle.packet.specs.Judging.{elementsFit};
-ghost use Rattle.packet.specs.Wire.{streamOf, headerStreamOf, cipherOf};
+ghost use Rattle.packet.specs.Wire.{streamOf, cipherOf};
 
 // The bytes from `first` up to `stop`, and then from `rest` on, in one unbroken keystream.
 pub struct Portion {
