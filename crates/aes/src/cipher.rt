@@ -1,53 +1,19 @@
 // The cipher on one block (FIPS 197, 5.1).
-use crate::begin::Begun;
-use crate::begin::begin;
-use crate::begin::two_rounds;
-use crate::column::add_round_key;
-use crate::column::round_column;
-use crate::key_schedule;
-use crate::tables;
-use crate::word;
+use aes_begin::begin::Begun;
+use aes_begin::begin::begin;
+use aes_begin::begin::two_rounds;
+use aes_keys::key_schedule;
+use aes_rounds::round::last_round;
+use aes_rounds::round::round;
+use aes_tables::tables;
 ghost use mathlib.Core.Path.{_≡_};
 ghost use mathlib.Core.List.{List, [], _∷_};
 ghost use Prim.Native.Nat.{ℕ};
 ghost use lib.ListN.{getD};
-ghost use Rattle.aes.specs.Cipher.{roundOf, lastRoundOf, cipherOf};
-ghost use Rattle.aes.specs.Keys.{aes128Of};
-ghost use Rattle.aes.specs.Steps.{SboxTable, RoundTable, endingOf, Begins};
-
-fn round(table: &[u8; 2048], s: [[u8; 4]; 4], k: [[u8; 4]; 4]) -> [[u8; 4]; 4]
-    requires { ⌜ RoundTable (now table) ⌝ }
-    ensures { λ r. ⌜ r ≡ roundOf s k ⌝ }
-{
-    let a = s[0];
-    let b = s[1];
-    let c = s[2];
-    let d = s[3];
-    [
-        round_column(table, a[0], b[1], c[2], d[3], k[0]),
-        round_column(table, b[0], c[1], d[2], a[3], k[1]),
-        round_column(table, c[0], d[1], a[2], b[3], k[2]),
-        round_column(table, d[0], a[1], b[2], c[3], k[3]),
-    ]
-}
-
-// The last round mixes no columns.
-fn last_round(sbox: &[u8; 256], s: [[u8; 4]; 4], k: [[u8; 4]; 4]) -> [[u8; 4]; 4]
-    requires { ⌜ SboxTable (now sbox) ⌝ }
-    ensures { λ r. ⌜ r ≡ lastRoundOf s k ⌝ }
-{
-    let a = s[0];
-    let b = s[1];
-    let c = s[2];
-    let d = s[3];
-    let shifted = [
-        word::substitute(sbox, [a[0], b[1], c[2], d[3]]),
-        word::substitute(sbox, [b[0], c[1], d[2], a[3]]),
-        word::substitute(sbox, [c[0], d[1], a[2], b[3]]),
-        word::substitute(sbox, [d[0], a[1], b[2], c[3]]),
-    ];
-    add_round_key(shifted, k)
-}
+ghost use Rattle.aes_tables.specs.Cipher.{cipherOf};
+ghost use Rattle.aes_tables.specs.Keys.{aes128Of};
+ghost use Rattle.aes_tables.specs.Tables.{SboxTable, RoundTable};
+ghost use Rattle.aes_begin.specs.Steps.{endingOf, Begins};
 
 // The cipher on the block that was begun and that ends with the bytes x and y. `keys` are the round keys that `expand` makes of a key.
 pub fn encrypt(

@@ -10,7 +10,8 @@ use Rattle.bits.specs.Lists.{tabulate}
 use Rattle.bits.specs.Xor.{xorPad}
 use Rattle.bits.proofs.Xor.{pad-ext}
 use Rattle.aes_cm.specs.declared.derivation.SessionKeys.{SessionKeys}
-use Rattle.aes_cm.specs.Keystream.{keystreamOf, portionPad}
+use Rattle.aes_counter.specs.Keystream.{keystreamOf}
+use Rattle.aes_cm.specs.Portion.{portionPad}
 use Rattle.aes_cm.specs.Derivation.{saltFor, derivedOf}
 
 onto-zeros : (n : ℕ) (pad : ℕ → ℕ) → xorPad pad (replicate n 0) ≡ tabulate n pad

@@ -11,12 +11,14 @@ use lib.ListN.{length, getD}
 use lib.Pow.{areBytes}
 use Rattle.bits.specs.Xor.{xorPad}
 use Rattle.bits.proofs.Xor.{pad-ext}
-use Rattle.aes.specs.Cipher.{cipherOf}
-use Rattle.aes.specs.Keys.{roundKeysOf}
-use Rattle.aes_cm.specs.Keystream.{stateOf, bytesOf, counterOf, blockOf, keystreamOf, portionPad}
-use Rattle.aes_cm.specs.Steps.{blockBy, byteBy, stretchPad}
-use Rattle.aes_cm.proofs.Counters.{numbered}
-use Rattle.aes_cm.proofs.Stretches.{at-before, at-past, at-in, pad-join}
+use Rattle.aes_tables.specs.Cipher.{cipherOf}
+use Rattle.aes_tables.specs.Keys.{roundKeysOf}
+use Rattle.aes_counter.specs.Keystream.{stateOf, bytesOf, counterOf, blockOf, keystreamOf}
+use Rattle.aes_cm.specs.Portion.{portionPad}
+use Rattle.aes_counter.specs.Blocks.{blockBy, byteBy}
+use Rattle.stretches.specs.Stretch.{stretchPad}
+use Rattle.aes_counter.proofs.Counters.{numbered}
+use Rattle.stretches.proofs.Stretches.{at-before, at-past, at-in, pad-join}
 
 module _ (key salt : List ℕ) (ssrc i : ℕ) (n : length salt ≡ 14) (b : T (areBytes salt)) (hq : ssrc < 2 ^ 32) (hi : i < 2 ^ 48) where
   pub block-is : (j : ℕ) → j < 2 ^ 16 → blockBy (roundKeysOf (stateOf key)) (stateOf (counterOf salt ssrc i 0)) j ≡ blockOf key salt ssrc i j

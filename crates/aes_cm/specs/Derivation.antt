@@ -5,7 +5,7 @@ use lib.ListN.{getD, set}
 use Rattle.bits.specs.Lists.{tabulate}
 use Rattle.bits.specs.Xor.{_⊕_}
 use Rattle.aes_cm.specs.declared.derivation.SessionKeys.{SessionKeys}
-use Rattle.aes_cm.specs.Keystream.{keystreamOf}
+use Rattle.aes_counter.specs.Keystream.{keystreamOf}
 
 -- x = key_id XOR the master salt, both ending at the same byte. key_id is the label and then 48 bits that are 0 at rate 0, so the label, below 256,
 -- meets byte 7 of the salt, counted from 0

@@ -1,4 +1,2 @@
-pub mod Keystream
+pub mod Portion
 pub mod Derivation
-pub mod Claims
-pub mod Steps

@@ -1,7 +1,4 @@
 // AES in counter mode: the keystream of a packet and the derivation of session keys.
 // Follows RFC 3711, sections 4.1.1 and 4.3.
-pub mod claims;
-pub mod counter;
 pub mod derivation;
-pub mod keystream;
 pub mod portion;

@@ -1,17 +1,18 @@
 // The keystream of a packet onto a portion with a gap, which runs to the end of the buffer.
-use crate::counter::iv;
-use crate::counter::state;
-use crate::keystream::Keystream;
-use crate::keystream::xor_stretch;
-use aes::begin::begin;
-use aes::key_schedule::expand;
-use aes::tables;
+use aes_begin::begin::begin;
+use aes_counter::counter::iv;
+use aes_counter::counter::state;
+use aes_keys::key_schedule::expand;
+use aes_keystream::keystream::Keystream;
+use aes_keystream::keystream::xor_stretch;
+use aes_tables::tables;
 ghost use mathlib.Core.Path.{_≡_};
 ghost use Prim.Native.Nat.{_^_, _≤_, _<_};
 ghost use lib.ListN.{length};
 ghost use Rattle.bits.specs.Xor.{xorPad};
-ghost use Rattle.aes.specs.Steps.{SboxTable, RoundTable};
-ghost use Rattle.aes_cm.specs.Keystream.{keystreamOf, portionPad};
+ghost use Rattle.aes_tables.specs.Tables.{SboxTable, RoundTable};
+ghost use Rattle.aes_counter.specs.Keystream.{keystreamOf};
+ghost use Rattle.aes_cm.specs.Portion.{portionPad};
 
 // The bytes from `first` up to `stop` and from `rest` on continue one keystream. A block that both sides share is made once.
 // RFC 3711 allows 2^16 blocks of keystream for a packet, 2^20 bytes; a packet here has at most 2,048.

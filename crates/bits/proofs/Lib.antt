@@ -5,3 +5,6 @@ pub mod Xor
 pub mod BigEndian
 pub mod Table
 pub mod Running
+pub mod Copying
+pub mod Refusals
+pub mod Tests

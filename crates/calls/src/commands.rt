@@ -1,96 +1,65 @@
-// A line of the script, answered by its first word.
-use crate::elements::find_element;
-use crate::elements::mask_block;
-use crate::indices::guess_index;
-use crate::output::put_text;
-use crate::output::unreadable;
-use crate::output::write_line;
-use crate::packets::packet_call;
-use crate::sessions::Desk;
-use crate::sessions::add_stream;
-use crate::sessions::make_session;
-use crate::sessions::none_made;
-use crate::states::show_state;
-use crate::words::count;
-use crate::words::is;
-use crate::words::well_spaced;
-use crate::words::word;
-use packet::policy::Way;
+// A line of the script, answered by its first word. Each call puts its answer together and gives back how long it is: 0 for a line that cannot be read,
+// which changes nothing.
+use crate::sessions::on_session;
+use element_lines::find::find_element;
+use element_lines::mask::mask_block;
+use index_lines::guess::guess_index;
+use memory::copying::clear;
+use text::words::count;
+use text::words::first_among;
+use text::words::well_spaced;
+use text_output::output::put_text;
+use text_output::output::write_line;
 
 // A new list of calls begins: the line is written back, and all sessions are forgotten.
-fn new_case(desk: Desk, line: &[u8]) -> Desk {
+fn new_case(desk: &mut [u64], line: &[u8], out: &mut [u8]) -> usize {
     if count(line) < 2 {
-        unreadable();
-        return desk;
+        return 0;
     }
-    let mut out = [0u8; 20001];
-    let at = put_text(&mut out, 0, line);
-    write_line(&mut out, at);
-    none_made()
+    clear(desk);
+    put_text(out, 0, line)
 }
 
-// The lines that change no session.
-fn show(desk: Desk, line: &[u8], name: &[u8]) {
-    if is(name, b"find") {
-        return find_element(line);
+// The lines without a session.
+fn other(call: usize, line: &[u8], out: &mut [u8]) -> usize {
+    match call {
+        6 => find_element(line, out),
+        7 => guess_index(line, out),
+        8 => mask_block(line, out),
+        _ => 0,
     }
-    if is(name, b"state") {
-        return show_state(desk, line);
-    }
-    if is(name, b"guess") {
-        return guess_index(line);
-    }
-    if is(name, b"mask") {
-        return mask_block(line);
-    }
-    unreadable();
 }
 
-fn command(desk: Desk, line: &[u8]) -> Desk {
-    let name = word(line, 0);
-    if is(name, b"case") {
-        return new_case(desk, line);
+fn command(desk: &mut [u64], line: &[u8], out: &mut [u8]) -> usize {
+    if (20000 < line.len()) | !well_spaced(line) {
+        return 0;
     }
-    if is(name, b"make") {
-        return make_session(desk, line);
+    let call = first_among(
+        line,
+        b"make add protect unprotect state case find guess mask",
+    );
+    if call < 5 {
+        return on_session(desk, call, line, out);
     }
-    if is(name, b"add") {
-        return add_stream(desk, line);
+    if call == 5 {
+        return new_case(desk, line, out);
     }
-    if is(name, b"protect") {
-        return packet_call(desk, line, Way::Sending);
-    }
-    if is(name, b"unprotect") {
-        return packet_call(desk, line, Way::Receiving);
-    }
-    show(desk, line, name);
-    desk
+    other(call, line, out)
 }
 
-// Nothing is written for an empty line and for a comment.
+// Nothing is written for an empty line and for a comment, but for a longer one than is read.
 fn is_silent(line: &[u8]) -> bool {
     if line.len() == 0 {
         return true;
     }
-    line[0] == 35
+    (line[0] == 35) & (line.len() <= 20000)
 }
 
-// The first `used` bytes of the text are a line, without its line feed: the sessions after it.
-pub fn answer(desk: Desk, text: &[u8], used: usize) -> Desk {
-    if 20000 < used {
-        unreadable();
-        return desk;
-    }
-    if text.len() < used {
-        return desk;
-    }
-    let line = &text[0..used];
+pub fn answer(desk: &mut [u64], line: &[u8]) {
     if is_silent(line) {
-        return desk;
+        return;
     }
-    if !well_spaced(line) {
-        unreadable();
-        return desk;
-    }
-    command(desk, line)
+    let mut out = [0u8; 20001];
+    let length = command(desk, line, &mut out);
+    write_line(&mut out, length);
 }

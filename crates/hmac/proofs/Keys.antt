@@ -10,8 +10,8 @@ use lib.ListN.{length, getD, set, take, replicate}
 use lib.Seq.{take-suc, take-all, length-take-le}
 use Rattle.bits.specs.Xor.{_⊕_, xorPad}
 use Rattle.bits.proofs.Xor.{length-pad, pad-append}
-use Rattle.sha1.specs.Hash.{sha1Of}
-use Rattle.sha1.proofs.Blocks.{put}
+use Rattle.sha1_compress.specs.Hash.{sha1Of}
+use Rattle.sha1_compress.proofs.Blocks.{put}
 use Rattle.hmac.specs.Hmac.{filledOf, keyBlockOf}
 
 -- every byte with x

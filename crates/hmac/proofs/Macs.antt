@@ -13,10 +13,10 @@ use Rattle.bits.specs.Pick.{pick}
 use Rattle.bits.specs.Xor.{xorPad}
 use Rattle.bits.proofs.BigEndian.{from-to, length-to}
 use Rattle.bits.proofs.Xor.{length-pad}
-use Rattle.sha1.specs.Message.{paddingOf, padOf, wordAt, wordsIn}
-use Rattle.sha1.specs.Hash.{startOf, compressOf, blocksOf, digestOf, sha1Of}
-use Rattle.sha1.specs.Steps.{hashFrom}
-use Rattle.sha1.proofs.Blocks.{blocks-add}
+use Rattle.sha1_compress.specs.Message.{paddingOf, padOf, wordAt, wordsIn}
+use Rattle.sha1_compress.specs.Hash.{startOf, compressOf, blocksOf, digestOf, sha1Of}
+use Rattle.sha1_compress.specs.Steps.{hashFrom}
+use Rattle.sha1_compress.proofs.Blocks.{blocks-add}
 use Rattle.hmac.specs.declared.key.KeyStates.{KeyStates}
 use Rattle.hmac.specs.Hmac.{filledOf, keyBlockOf, ipad, opad, hmacOf}
 use Rattle.hmac.specs.Steps.{stateOf, keyStatesOf, macOf}

@@ -5,7 +5,7 @@ use lib.Dec.{leb}
 use lib.ListN.{length, replicate}
 use Rattle.bits.specs.Pick.{pick}
 use Rattle.bits.specs.Xor.{xorPad}
-use Rattle.sha1.specs.Hash.{sha1Of}
+use Rattle.sha1_compress.specs.Hash.{sha1Of}
 
 -- (1): zeros are appended, up to 64 bytes
 abbrev pub filledOf : List ℕ → List ℕ

@@ -4,8 +4,8 @@ use mathlib.Core.Path.{_≡_}
 use mathlib.Core.List.{List}
 use Prim.Native.Nat.{ℕ}
 use Rattle.bits.specs.Xor.{xorPad}
-use Rattle.sha1.specs.Hash.{startOf, blocksOf, digestOf}
-use Rattle.sha1.specs.Steps.{hashFrom}
+use Rattle.sha1_compress.specs.Hash.{startOf, blocksOf, digestOf}
+use Rattle.sha1_compress.specs.Steps.{hashFrom}
 use Rattle.hmac.specs.declared.key.KeyStates.{KeyStates}
 use Rattle.hmac.specs.Hmac.{keyBlockOf, ipad, opad, hmacOf}
 

@@ -1,7 +1,7 @@
 // The hash values after the inner and the outer key block. They depend on the key alone, so they are made once for each key.
 use sha1::digest::sha1;
 use sha1::digest::start;
-use sha1::message::blocks;
+use sha1_message::message::blocks;
 ghost use mathlib.Core.Path.{_≡_};
 ghost use Prim.Native.Nat.{_≤_, _<_, _^_};
 ghost use lib.ListN.{length};

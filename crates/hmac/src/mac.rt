@@ -1,15 +1,15 @@
 // The message authentication code, over a message in two parts: a part of the caller's buffer, and some bytes more.
 use crate::key::KeyStates;
 use crate::key::key_states;
-use sha1::compress::compress;
 use sha1::digest::digest;
-use sha1::message::finish;
+use sha1_compress::compress::compress;
+use sha1_message::message::finish;
 ghost use mathlib.Core.Path.{_≡_};
 ghost use mathlib.Core.List.{_++_};
 ghost use Prim.Native.Nat.{_≤_, _<_, _^_};
 ghost use lib.ListN.{length};
-ghost use Rattle.sha1.specs.Message.{wordsIn, paddingOf};
-ghost use Rattle.sha1.specs.Hash.{digestOf};
+ghost use Rattle.sha1_compress.specs.Message.{wordsIn, paddingOf};
+ghost use Rattle.sha1_compress.specs.Hash.{digestOf};
 ghost use Rattle.hmac.specs.Hmac.{hmacOf};
 ghost use Rattle.hmac.specs.Steps.{macOf, KeyStatesGiveTheMac};
 

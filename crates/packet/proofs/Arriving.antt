@@ -9,21 +9,22 @@ use lib.Seq.{getD-take, length-take-le, take-take}
 use Rattle.bits.specs.BigEndian.{toBytes}
 use Rattle.hmac.specs.Steps.{macOf}
 use Rattle.hmac.specs.Tag.{sameOf}
-use Rattle.rtp.specs.declared.header.Header.the-variants.{Read}
-use Rattle.rtp.specs.declared.header.Layout.{Layout}
-use Rattle.rtp.specs.Elements.{wholeOf}
-use Rattle.rtp.specs.Header.{layoutOf, blockOf}
-use Rattle.packet.specs.declared.keys.Keys.{Keys}
-use Rattle.packet.specs.declared.policy.Policy.{Policy}
-use Rattle.packet.specs.declared.policy.Way.the-variants.{Receiving}
-use Rattle.packet.specs.Cryptex.{untaggedOf}
-use Rattle.packet.specs.Judging.{elementsFit, judgedOf}
-use Rattle.packet.specs.Policies.{usesMask}
-use Rattle.packet.specs.Wire.{restoreBy, cipherOf, tagOf, restoreOf, tagFits}
-use Rattle.packet.proofs.Layouts.{sound, layout-same}
-use Rattle.packet.proofs.Raising.{drop-take}
-use Rattle.packet.proofs.RoundTrips.{Passed, append-block}
-use Rattle.packet.proofs.Tagging.{judged-layout, judged-passed}
+use Rattle.rtp_header.specs.declared.header.Header.the-variants.{Read}
+use Rattle.rtp_header.specs.declared.header.Layout.{Layout}
+use Rattle.rtp_elements.specs.Elements.{wholeOf}
+use Rattle.rtp_header.specs.Header.{layoutOf, blockOf}
+use Rattle.packet_cipher.specs.declared.keys.Keys.{Keys}
+use Rattle.policies.specs.declared.policy.Policy.{Policy}
+use Rattle.policies.specs.declared.policy.Way.the-variants.{Receiving}
+use Rattle.policies.specs.Cryptex.{untaggedOf}
+use Rattle.policies.specs.Judging.{elementsFit, judgedOf}
+use Rattle.policies.specs.Policies.{usesMask}
+use Rattle.wire.specs.Wire.{restoreBy, tagOf, restoreOf, tagFits}
+use Rattle.packet_cipher.specs.Cipher.{cipherOf}
+use Rattle.policies.proofs.Layouts.{sound, layout-same}
+use Rattle.cryptex.proofs.Raising.{drop-take}
+use Rattle.wire.proofs.RoundTrips.{Passed, append-block}
+use Rattle.wire.proofs.Tagging.{judged-layout, judged-passed}
 
 module _ (policy : Policy) (t : ℕ) (l : List ℕ) (n : ℕ) (h : Layout) (inside : n ≤ length l) (e : judgedOf Receiving policy t (take n l) ≡ Read h) where
   whole-layout : h ≡ layoutOf (take n l)

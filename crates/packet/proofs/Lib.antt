@@ -1,12 +1,2 @@
-pub mod Layouts
-pub mod Pads
-pub mod Crypting
-pub mod Forms
-pub mod RoundTrips
-pub mod Verdicts
-pub mod Raising
-pub mod Passes
-pub mod Tagging
-pub mod Copying
-pub mod Arriving
 pub mod Sending
+pub mod Arriving

@@ -9,19 +9,20 @@ use lib.Seq.{take-at, drop-at, drop-drop}
 use Rattle.bits.specs.BigEndian.{toBytes}
 use Rattle.bits.specs.Pick.{pick}
 use Rattle.hmac.specs.Steps.{macOf}
-use Rattle.rtp.specs.declared.header.Header.the-variants.{Read}
-use Rattle.rtp.specs.declared.header.Layout.{Layout}
-use Rattle.rtp.specs.Header.{layoutOf}
-use Rattle.packet.specs.declared.keys.Keys.{Keys}
-use Rattle.packet.specs.declared.policy.Policy.{Policy}
-use Rattle.packet.specs.declared.policy.Way.the-variants.{Sending}
-use Rattle.packet.specs.Cryptex.{addsBlock, givenBackOf, cryptexTag, written16, taggedOf}
-use Rattle.packet.specs.Judging.{judgedOf}
-use Rattle.packet.specs.Policies.{usesCryptex}
-use Rattle.packet.specs.Wire.{bodyBy, wireBy, streamOf, headerStreamOf, cipherOf, tagOf, wireOf}
-use Rattle.packet.proofs.Crypting.{crypted-length}
-use Rattle.packet.proofs.Forms.{written-length}
-use Rattle.packet.proofs.Tagging.{count, small, not-added, is-added, grown}
+use Rattle.rtp_header.specs.declared.header.Header.the-variants.{Read}
+use Rattle.rtp_header.specs.declared.header.Layout.{Layout}
+use Rattle.rtp_header.specs.Header.{layoutOf}
+use Rattle.packet_cipher.specs.declared.keys.Keys.{Keys}
+use Rattle.policies.specs.declared.policy.Policy.{Policy}
+use Rattle.policies.specs.declared.policy.Way.the-variants.{Sending}
+use Rattle.policies.specs.Cryptex.{addsBlock, cryptexTag, written16, taggedOf}
+use Rattle.wire.specs.Wire.{givenBackOf, bodyBy, wireBy, tagOf, wireOf}
+use Rattle.policies.specs.Judging.{judgedOf}
+use Rattle.policies.specs.Policies.{usesCryptex}
+use Rattle.packet_cipher.specs.Cipher.{streamOf, headerStreamOf, cipherOf}
+use Rattle.packet_cipher.proofs.Crypting.{crypted-length}
+use Rattle.wire.proofs.Forms.{written-length}
+use Rattle.wire.proofs.Tagging.{count, small, not-added, is-added, grown}
 
 either-length : (t : Bool) (a b : List ℕ) → length a ≡ length b → length (pick t a b) ≡ length b
 either-length true a b e = e

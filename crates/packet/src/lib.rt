@@ -1,12 +1,3 @@
 // One packet under given session keys, policy, ids, SSRC and index: the bytes that are sent, and what is given back. No session, no record.
 // Follows RFC 3711 (3.1, 3.3, 4.2), RFC 9335 (5, 6), RFC 6904 (3) and document 01.
-mod block;
-mod cipher;
-pub mod claims;
-mod form;
-pub mod judge;
-pub mod keys;
-pub mod policy;
 pub mod protect;
-mod tag;
-pub mod uses;

@@ -1,14 +1,14 @@
 // Protecting and unprotecting one packet in its buffer.
-use crate::form::decrypt;
-use crate::form::encrypt_packet;
-use crate::keys::Keys;
-use crate::policy::Policy;
-use crate::policy::Way;
 use bits::big_endian::write32;
 use hmac::key::KeyStates;
 use hmac::mac::mac;
 use hmac::tag::same;
-use rtp::header::Layout;
+use packet_cipher::keys::Keys;
+use packet_form::form::decrypt;
+use packet_form::form::encrypt_packet;
+use policies::policy::Policy;
+use policies::policy::Way;
+use rtp_header::header::Layout;
 ghost use mathlib.Core.Path.{_≡_};
 ghost use mathlib.Core.Bool.{true};
 ghost use mathlib.Core.List.{_++_};
@@ -17,10 +17,10 @@ ghost use lib.ListN.{length, take, drop};
 ghost use Rattle.bits.specs.BigEndian.{toBytes};
 ghost use Rattle.bits.specs.Pick.{pick};
 ghost use Rattle.hmac.specs.Steps.{macOf};
-ghost use Rattle.rtp.specs.declared.header.Header.the-variants.{Read};
-ghost use Rattle.rtp.specs.Mask.{listedIn};
-ghost use Rattle.packet.specs.Judging.{addedOf, judgedOf};
-ghost use Rattle.packet.specs.Wire.{wireOf, restoreOf, tagFits};
+ghost use Rattle.rtp_header.specs.declared.header.Header.the-variants.{Read};
+ghost use Rattle.rtp_elements.specs.Mask.{listedIn};
+ghost use Rattle.policies.specs.Judging.{addedOf, judgedOf};
+ghost use Rattle.wire.specs.Wire.{wireOf, restoreOf, tagFits};
 
 // The code over a packet without its tag and then the rollover counter.
 fn code(states: KeyStates, index: u64, body: &[u8]) -> [u8; 20]

@@ -6,7 +6,7 @@ use native.Mathlib.Nat.{add-zero}
 use native.Mathlib.Omega.{arith}
 use borrow.Author.Tests.{ltb-true, ltb-false, lt-ltb, le-ltb}
 use lib.Dec.{ltb}
-use lib.IntN.{ℤ, pos, negsuc, subℕ, natAbs, _-ℤ_, +ℤ-idr, pos-ne-negsuc}
+use lib.IntN.{ℤ, pos, negsuc, subℕ, _-ℤ_, +ℤ-idr}
 use mir.Syntax.{w32}
 use mir.Val.{SFits, toZ, ofZ}
 use mir.ValLaws.{toZ-pos, toZ-ofZ}
@@ -26,12 +26,6 @@ lands a b n e =
     let h : b ≤ a = omega arith in
     let f : a - b ≡ n = omega arith in
     rw (le-ltb a b h) (ap pos f)
-
-pub landed : (a b n : ℕ) → subℕ a b ≡ pos n → a ≡ n + b
-landed a b n =
-    by-sign (λ (z : ℤ). z ≡ pos n → a ≡ n + b) a b
-    (λ l e. absurd (pos-ne-negsuc n (b - suc a) (sym e)))
-    (λ l e. let f : a - b ≡ n = cc in omega arith)
 
 -- only the difference counts
 pub same-difference : (a b c d : ℕ) → a + d ≡ c + b → subℕ a b ≡ subℕ c d
@@ -53,10 +47,6 @@ minus-number a b c =
     by-sign (λ (z : ℤ). z -ℤ pos c ≡ subℕ a (b + c)) a b
     (λ h. let f : b - suc a + c ≡ b + c - suc a = omega arith in negative-minus (b - suc a) c ∙ ap negsuc f ∙ sym (below a (b + c) (omega arith)))
     (λ h. minus (a - b) c ∙ same-difference (a - b) c a (b + c) (omega arith))
-
--- how far a difference goes
-pub size : (a b n : ℕ) → a ≤ b + n → b ≤ a + n → natAbs (subℕ a b) ≤ n
-size a b n h k = by-sign (λ (z : ℤ). natAbs z ≤ n) a b (λ l. omega arith) (λ l. omega arith)
 
 -- ---- 32-bit numbers, subtracted as signed ones
 

@@ -4,11 +4,11 @@ use Prim.Native.Nat.{ℕ, suc, _+_, _-_, _*_, _^_, _<_, _≤_}
 use native.Mathlib.Decide.{decLt}
 use native.Mathlib.Omega.{arith}
 use borrow.Author.Tests.{lt-ltb, le-ltb, lt-leb, le-leb}
-use lib.IntN.{ℤ, pos, negsuc, subℕ, natAbs, _+ℤ_, _-ℤ_, _*ℤ_, +ℤ-comm, -ℤ-+ℤ-cancel}
+use lib.IntN.{ℤ, pos, negsuc, subℕ, _+ℤ_, _-ℤ_, _*ℤ_}
 use Rattle.replay.specs.declared.guess.Offset.{Offset}
 use Rattle.replay.specs.Guess.{lowOf, rolloverOf, guessedRollover, guessOf, distanceOf}
 use Rattle.replay.specs.Steps.{offsetOf}
-use Rattle.replay.proofs.Differences.{by-sign, lands, landed, same-difference, minus-number, size}
+use Rattle.replay.proofs.Differences.{by-sign, lands, same-difference, minus-number}
 
 -- the three cases of the rule
 module _ (P : ℤ → Offset → Type 0) (h seq : ℕ) (small : seq < 65536)
@@ -74,37 +74,3 @@ module _ (h seq : ℕ) (small : seq < 65536) where
 
   pub down-small : offsetOf h seq .down < 2 ^ 31
   down-small = by-guess (λ (v : ℤ) (o : Offset). o .down < 2 ^ 31) h seq small (λ p. omega arith) (λ p. omega arith) (λ p q. omega arith)
-
-  pub range : natAbs (distanceOf h seq) ≤ 32768
-  range =
-      rw distance-is
-      (by-guess (λ (v : ℤ) (o : Offset). natAbs (subℕ (o .up) (o .down)) ≤ 32768) h seq small
-      (λ p. size seq (lowOf h + 65536) 32768 (omega arith) (omega arith))
-      (λ p. size (seq + 65536) (lowOf h) 32768 (omega arith) (omega arith))
-      (λ p q. size seq (lowOf h) 32768 (omega arith) (omega arith)))
-
-pub reaches : (h seq : ℕ) → pos h +ℤ distanceOf h seq ≡ guessOf h seq
-unfolding distanceOf
-reaches h seq = +ℤ-comm (pos h) (guessOf h seq -ℤ pos h) ∙ -ℤ-+ℤ-cancel (guessOf h seq) (pos h)
-
--- an index that is guessed ends in the sequence number
-pub guess-low : (h seq i : ℕ) → seq < 65536 → guessOf h seq ≡ pos i → lowOf i ≡ seq
-guess-low h seq i small e =
-    by-guess (λ (v : ℤ) (o : Offset). subℕ (h + o .up) (o .down) ≡ pos i → lowOf i ≡ seq) h seq small
-    (λ p f. let g = landed (h + seq) (lowOf h + 65536) i f in omega arith)
-    (λ p f. let g = landed (h + (seq + 65536)) (lowOf h) i f in omega arith)
-    (λ p q f. let g = landed (h + seq) (lowOf h) i f in omega arith)
-    (sym (guess-is h seq small) ∙ e)
-
-pub near : (h i : ℕ) → i < h + 32768 → h < i + 32768 → guessOf h (lowOf i) ≡ pos i
-near h i p q =
-    let small : lowOf i < 65536 = omega arith in
-    let e : h + offsetOf h (lowOf i) .up ≡ i + offsetOf h (lowOf i) .down =
-    by-guess (λ (v : ℤ) (o : Offset). h + o .up ≡ i + o .down) h (lowOf i) small (λ l. omega arith) (λ l. omega arith) (λ l m. omega arith) in
-    guess-is h (lowOf i) small ∙ lands (h + offsetOf h (lowOf i) .up) (offsetOf h (lowOf i) .down) i e
-
-pub at-zero : (h : ℕ) → distanceOf h (lowOf h) ≡ pos 0
-at-zero h =
-    distance-is h (lowOf h) (omega arith)
-    ∙ by-guess (λ (v : ℤ) (o : Offset). subℕ (o .up) (o .down) ≡ pos 0) h (lowOf h) (omega arith)
-    (λ l. absurd (omega arith)) (λ l. absurd (omega arith)) (λ l m. lands (lowOf h) (lowOf h) 0 (omega arith))

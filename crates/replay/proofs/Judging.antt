@@ -6,15 +6,15 @@ use native.Mathlib.Decide.{decLt}
 use native.Mathlib.Omega.{arith}
 use borrow.Author.Tests.{lt-leb, le-leb}
 use lib.Dec.{leb}
-use lib.IntN.{ℤ, pos}
+use lib.IntN.{ℤ, pos, subℕ}
 use Rattle.bits.specs.declared.refusal.Refusal.the-variants as refusal
 use Rattle.replay.specs.declared.answer.Judged.the-variants.{Index, Refused}
-use Rattle.replay.specs.declared.state.ReplayState.{ReplayState}
+use Rattle.replay.specs.State.{ReplayState, judgeOf, acceptOf, afterOf}
 use Rattle.replay.specs.Guess.{guessOf, distanceOf}
 use Rattle.replay.specs.Window.{seenIn}
-use Rattle.replay.specs.State.{judgeOf, acceptOf, afterOf}
 use Rattle.replay.specs.Receive.{judgeIndex, receiveOf}
-use Rattle.replay.specs.Send.{stepOf, nextOf}
+use Rattle.replay.specs.Send.{stepOf, steppedOf, nextOf}
+use Rattle.replay.proofs.Differences.{below, lands}
 
 module _ (b W : ℕ) (s : ReplayState) (i : ℕ) where
   pub first-taken : s .started ≡ false → judgeOf b W s i ≡ Index i
@@ -39,27 +39,38 @@ module _ (b W : ℕ) (s : ReplayState) (i : ℕ) where
   pub unworn : i < 2 ^ 48 → judgeIndex b W s (pos i) ≡ judgeOf b W s i
   unworn h = simp (lt-leb (2 ^ 48) i h)
 
-module _ (s : ReplayState) (rollover seq : ℕ) where
-  pub first-sent : s .started ≡ false → nextOf s rollover seq ≡ Index (rollover * 65536 + seq)
-  unfolding nextOf
-  first-sent e = simp e
+-- an index that is told as a difference
+module _ (b W : ℕ) (s : ReplayState) (reached down : ℕ) where
+  pub worn-there : 2 ^ 48 + down ≤ reached → judgeIndex b W s (subℕ reached down) ≡ Refused refusal.Worn
+  worn-there h = rw (lands reached down (reached - down) (omega arith)) (worn b W s (reached - down) (omega arith))
 
-  pub not-forward : s .started ≡ true → stepOf (s .highest) seq ≡ 0 → nextOf s rollover seq ≡ Refused refusal.Order
-  unfolding nextOf
-  not-forward e o = simp (e, lt-leb 1 (stepOf (s .highest) seq) (omega arith))
+  pub old-there : reached < down → judgeIndex b W s (subℕ reached down) ≡ Refused refusal.Old
+  old-there h = rw (below reached down h)
 
-  pub too-far : s .started ≡ true → 32767 < stepOf (s .highest) seq → nextOf s rollover seq ≡ Refused refusal.Order
-  unfolding nextOf
-  too-far e o = simp (e, le-leb 1 (stepOf (s .highest) seq) (omega arith), lt-leb (stepOf (s .highest) seq) 32767 o)
+  pub judged-there : down ≤ reached → reached < 2 ^ 48 + down → judgeIndex b W s (subℕ reached down) ≡ judgeOf b W s (reached - down)
+  judged-there h k = rw (lands reached down (reached - down) (omega arith)) (unworn b W s (reached - down) (omega arith))
 
-  module _ (e : s .started ≡ true) (o : 1 ≤ stepOf (s .highest) seq) (l : stepOf (s .highest) seq ≤ 32767) where
-    pub worn-out : 2 ^ 48 ≤ s .highest + stepOf (s .highest) seq → nextOf s rollover seq ≡ Refused refusal.Worn
-    unfolding nextOf
-    worn-out h = simp (e, le-leb 1 (stepOf (s .highest) seq) o, le-leb (stepOf (s .highest) seq) 32767 l, le-leb (2 ^ 48) (s .highest + stepOf (s .highest) seq) h)
+pub first-sent : (s : ReplayState) (rollover seq : ℕ) → s .started ≡ false → nextOf s rollover seq ≡ Index (rollover * 65536 + seq)
+unfolding nextOf
+first-sent s rollover seq e = simp e
 
-    pub sent : s .highest + stepOf (s .highest) seq < 2 ^ 48 → nextOf s rollover seq ≡ Index (s .highest + stepOf (s .highest) seq)
-    unfolding nextOf
-    sent h = simp (e, le-leb 1 (stepOf (s .highest) seq) o, le-leb (stepOf (s .highest) seq) 32767 l, lt-leb (2 ^ 48) (s .highest + stepOf (s .highest) seq) h)
+pub later-sent : (s : ReplayState) (rollover seq : ℕ) → s .started ≡ true → nextOf s rollover seq ≡ steppedOf (s .highest) (stepOf (s .highest) seq)
+unfolding nextOf
+later-sent s rollover seq e = simp e
+
+module _ (last step : ℕ) where
+  pub not-forward : step ≡ 0 → steppedOf last step ≡ Refused refusal.Order
+  not-forward o = simp (lt-leb 1 step (omega arith))
+
+  pub too-far : 32767 < step → steppedOf last step ≡ Refused refusal.Order
+  too-far o = simp (le-leb 1 step (omega arith), lt-leb step 32767 o)
+
+  module _ (o : 1 ≤ step) (l : step ≤ 32767) where
+    pub worn-out : 2 ^ 48 ≤ last + step → steppedOf last step ≡ Refused refusal.Worn
+    worn-out h = simp (le-leb 1 step o, le-leb step 32767 l, le-leb (2 ^ 48) (last + step) h)
+
+    pub sent : last + step < 2 ^ 48 → steppedOf last step ≡ Index (last + step)
+    sent h = simp (le-leb 1 step o, le-leb step 32767 l, lt-leb (2 ^ 48) (last + step) h)
 
 -- the same order on two sides
 pub same-order : (i W h : ℕ) → i ≤ h → leb W (h - i) ≡ leb (i + W) h

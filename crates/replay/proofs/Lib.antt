@@ -1,6 +1,6 @@
 pub mod Differences
 pub mod Guesses
 pub mod Judging
-pub mod Ring
-pub mod Ledger
-pub mod Indices
+pub mod Rings
+pub mod Tracks
+pub mod Words

@@ -4,6 +4,5 @@ pub mod Window
 pub mod State
 pub mod Receive
 pub mod Send
-pub mod Ledger
-pub mod Claims
+pub mod Track
 pub mod Steps

@@ -6,10 +6,14 @@ use Rattle.bits.specs.Pick.{pick}
 use Rattle.bits.specs.declared.refusal.Refusal.the-variants as refusal
 use Rattle.replay.specs.declared.answer.Judged.{Judged}
 use Rattle.replay.specs.declared.answer.Judged.the-variants.{Refused}
-use Rattle.replay.specs.declared.state.ReplayState.{ReplayState}
-use Rattle.replay.specs.declared.receive.Received.{Received}
 use Rattle.replay.specs.Guess.{guessOf, distanceOf}
-use Rattle.replay.specs.State.{judgeOf, afterOf}
+use Rattle.replay.specs.State.{ReplayState, judgeOf, afterOf}
+
+-- `distance` is the guessed index less the highest accepted one. `state` is the state as it becomes: unchanged with a refusal.
+pub record Received : Type 0 where
+  pub judged : Judged
+  pub distance : ℤ
+  pub state : ReplayState
 
 -- the first packet has index rollover * 65,536 + SEQ, a later one the guess
 abbrev pub indexFor : ReplayState → ℕ → ℕ → ℤ

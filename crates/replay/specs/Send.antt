@@ -6,9 +6,13 @@ use Rattle.bits.specs.Pick.{pick}
 use Rattle.bits.specs.declared.refusal.Refusal.the-variants as refusal
 use Rattle.replay.specs.declared.answer.Judged.{Judged}
 use Rattle.replay.specs.declared.answer.Judged.the-variants.{Index, Refused}
-use Rattle.replay.specs.declared.state.ReplayState.{ReplayState}
-use Rattle.replay.specs.declared.send.Sent.{Sent}
+use Rattle.replay.specs.State.{ReplayState}
 use Rattle.replay.specs.Guess.{lowOf}
+
+-- `state` is the state as it becomes: unchanged with a refusal.
+pub record Sent : Type 0 where
+  pub judged : Judged
+  pub state : ReplayState
 
 -- the step: the sequence number minus the last's, modulo 65,536
 unfoldable pub stepOf : ℕ → ℕ → ℕ

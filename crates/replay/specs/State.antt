@@ -1,5 +1,5 @@
 -- What a stream remembers, and an index judged beside it (document 01, numbers 12 and 13; RFC 3711, 3.3.2), with b blocks and width W.
-use mathlib.Core.Bool.{true, false}
+use mathlib.Core.Bool.{Bool, true, false}
 use Prim.Native.Nat.{ℕ, _+_, max}
 use lib.Dec.{leb}
 use lib.ListN.{replicate}
@@ -7,8 +7,13 @@ use Rattle.bits.specs.Pick.{pick}
 use Rattle.bits.specs.declared.refusal.Refusal.the-variants as refusal
 use Rattle.replay.specs.declared.answer.Judged.{Judged}
 use Rattle.replay.specs.declared.answer.Judged.the-variants.{Index, Refused}
-use Rattle.replay.specs.declared.state.ReplayState.{ReplayState}
-use Rattle.replay.specs.Window.{seenIn, markOf}
+use Rattle.replay.specs.Window.{Window, seenIn, markOf}
+
+-- `highest` is the highest index accepted, or the last one sent, and counts only where a packet was (`started`).
+pub record ReplayState : Type 0 where
+  pub started : Bool
+  pub highest : ℕ
+  pub window : Window
 
 -- before the first packet
 abbrev pub freshOf : ℕ → ReplayState

@@ -1,12 +1,17 @@
 -- The memory of accepted indices, which RFC 3711, 3.3.2, calls the replay list: a ring of b blocks of 64 indices, each stamped with its number.
 use mathlib.Core.Bool.{Bool}
+use mathlib.Core.List.{List}
 use Prim.Native.Nat.{ℕ, _/_, _%_, _^_}
 use lib.Bits.{bitOr}
 use lib.Dec.{eqb}
 use lib.ListN.{getD, set}
 use Rattle.bits.specs.Bits.{bit}
 use Rattle.bits.specs.Pick.{pick}
-use Rattle.replay.specs.declared.window.Window.{Window}
+
+-- Bit k of bits[n % b] says that index 64 * n + k was accepted, where stamps[n % b] is n.
+pub record Window : Type 0 where
+  pub stamps : List ℕ
+  pub bits : List ℕ
 
 -- This library's ring, and its width W. A ring of b blocks remembers every width up to 64 * (b - 1) (the claim `FollowsTheLedger`).
 abbrev pub blocks : ℕ

@@ -1,8 +1,7 @@
 // The index guess of a receiver (RFC 3711, 3.3.1), told as a signed distance from the highest accepted index.
 ghost use mathlib.Core.Path.{_≡_};
-ghost use Prim.Native.Nat.{_^_, _<_, _≤_};
-ghost use lib.IntN.{subℕ, natAbs};
-ghost use Rattle.replay.specs.Guess.{distanceOf};
+ghost use Prim.Native.Nat.{_^_, _<_};
+ghost use lib.IntN.{subℕ};
 ghost use Rattle.replay.specs.Steps.{offsetOf};
 
 // The guessed index is `highest + up - down`. Two unsigned numbers, so that the index can be tested against 0 before it is made.
@@ -41,13 +40,4 @@ pub fn guess(highest: u64, sequence: u16) -> Offset
         };
     }
     Offset { up: seq, down: s }
-}
-
-// From -32,768 to 32,768, for any number as the highest index.
-pub fn distance(highest: u64, sequence: u16) -> i32
-    ensures { λ r. ⌜ r ≡ distanceOf highest sequence ⌝ }
-    ensures { λ r. ⌜ natAbs r ≤ 32768 ⌝ }
-{
-    let o = guess(highest, sequence);
-    difference(o.up, o.down)
 }

@@ -1,17 +1,15 @@
-// The step of a sender: the index of the next packet, which moves forward by 1 to 32,767.
+// The step of a sender, in two halves: `send` gives the index of the next packet, which moves forward by 1 to 32,767, and writes nothing; `sent`
+// writes, once the packet is made. Of its track a sender reads and writes the first two words only: started, and its last index.
 use crate::answer::Judged;
-use crate::state::LIMIT;
-use crate::state::ReplayState;
-use crate::state::first_index;
+use crate::index::LIMIT;
+use crate::index::first_index;
 use bits::refusal::Refusal;
 ghost use mathlib.Core.Path.{_≡_};
-ghost use Rattle.replay.specs.Send.{stepOf, nextOf, sentOf, sendOf};
-
-// `state` is the state as it becomes: unchanged with a refusal.
-pub struct Sent {
-    pub judged: Judged,
-    pub state: ReplayState,
-}
+ghost use Prim.Native.Nat.{_≤_};
+ghost use lib.ListN.{length};
+ghost use Rattle.replay.specs.declared.answer.Judged.the-variants.{Index};
+ghost use Rattle.replay.specs.Send.{stepOf, steppedOf, sentOf, sendOf};
+ghost use Rattle.replay.specs.Track.{stateIn, stateWords};
 
 // From the last index to a sequence number, forward.
 fn step(last: u64, sequence: u16) -> u64
@@ -20,50 +18,40 @@ fn step(last: u64, sequence: u16) -> u64
     ((sequence as u64) + 65536 - last % 65536) % 65536
 }
 
-// The index of the next packet.
-fn next(state: ReplayState, rollover: u32, sequence: u16) -> Judged
-    ensures { λ r. ⌜ r ≡ nextOf state rollover sequence ⌝ }
+// The index after the last one.
+fn next(last: u64, sequence: u16) -> Judged
+    ensures { λ r. ⌜ r ≡ steppedOf last (stepOf last sequence) ⌝ }
 {
-    if !state.started {
-        return Judged::Index(first_index(rollover, sequence));
-    }
-    let step = step(state.highest, sequence);
+    let step = step(last, sequence);
     if step == 0 {
         return Judged::Refused(Refusal::Order);
     }
     if 32767 < step {
         return Judged::Refused(Refusal::Order);
     }
-    if LIMIT - step <= state.highest {
+    if LIMIT - step <= last {
         return Judged::Refused(Refusal::Worn);
     }
-    Judged::Index(state.highest + step)
+    Judged::Index(last + step)
 }
 
-// The state as it becomes: a sender keeps its last index only.
-fn kept(state: ReplayState, judged: Judged) -> ReplayState
-    ensures { λ r. ⌜ r ≡ sentOf state judged ⌝ }
+// The answer for a sequence number. `rollover` is the starting rollover of the stream, which counts for its first packet only. Any words have an
+// answer, also those that no list of packets leads to.
+pub fn send(track: &[u64], rollover: u32, sequence: u16) -> Judged
+    requires { ⌜ 2 ≤ length (now track) ⌝ }
+    ensures { λ r. ⌜ r ≡ sendOf (stateIn (now (track .entry))) rollover sequence .judged ⌝ }
 {
-    let window = state.window;
-    match judged {
-        Judged::Index(index) => ReplayState {
-            started: true,
-            highest: index,
-            window: window,
-        },
-        Judged::Refused(_) => state,
+    if track[0] != 1 {
+        return Judged::Index(first_index(rollover, sequence));
     }
+    next(track[1], sequence)
 }
 
-// `rollover` is the starting rollover of the stream, which counts for its first packet only. Any state has an answer, also one that no
-// list of packets leads to.
-pub fn send(state: ReplayState, rollover: u32, sequence: u16) -> Sent
-    ensures { λ r. ⌜ r ≡ sendOf state rollover sequence ⌝ }
+// One index more sent: two words written, the ring as it was. A sender keeps its last index only.
+pub fn sent(track: &mut [u64], index: u64)
+    requires { ⌜ 2 ≤ length (now track) ⌝ }
+    ensures { λ _. ⌜ now (track .exit) ≡ stateWords (sentOf (stateIn (now (track .entry))) (Index index)) ⌝ }
 {
-    let judged = next(state, rollover, sequence);
-    let next = kept(state, judged);
-    Sent {
-        judged: judged,
-        state: next,
-    }
+    track[0] = 1;
+    track[1] = index;
 }

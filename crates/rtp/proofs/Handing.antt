@@ -11,15 +11,17 @@ use lib.Seq.{length-take-le}
 use types.Run.{OneOf}
 use Rattle.bits.specs.Refusals.{numberOf}
 use Rattle.bits.specs.declared.refusal.Refusal.{Refusal}
-use Rattle.rtp.specs.declared.element.Element.{Element}
-use Rattle.rtp.specs.declared.element.Found.{Found}
-use Rattle.rtp.specs.declared.element.Found.the-variants.{At, Absent, Past}
-use Rattle.rtp.specs.declared.header.Header.the-variants.{Read, Refused}
-use Rattle.rtp.specs.declared.header.Layout.{Layout}
-use Rattle.rtp.specs.Finding.{locatedOf, Part, refusedPart, partOf, findOf, HandedBack, foundNumber}
-use Rattle.rtp.specs.Header.{headerOf, blockOf}
-use Rattle.rtp.specs.Steps.{Inside, Ordered}
-use Rattle.rtp.proofs.element.Found.{the-type}
+use Rattle.rtp_elements.specs.declared.element.Element.{Element}
+use Rattle.rtp_elements.specs.declared.element.Found.{Found}
+use Rattle.rtp_elements.specs.declared.element.Found.the-variants.{At, Absent, Past}
+use Rattle.rtp_header.specs.declared.header.Header.the-variants.{Read, Refused}
+use Rattle.rtp_header.specs.declared.header.Layout.{Layout}
+use Rattle.rtp.specs.Finding.{locatedOf, Part, refusedPart, partOf, findOf, HandedBack}
+use Rattle.rtp_elements.specs.Numbers.{foundNumber}
+use Rattle.rtp_header.specs.Header.{headerOf, blockOf}
+use Rattle.rtp.specs.Steps.{Inside}
+use Rattle.rtp_header.specs.Order.{Ordered}
+use Rattle.rtp_elements.proofs.element.Found.{the-type}
 
 -- an answer that is not `At` is a refusal
 pub refused-part : (f : Found) (block : ℕ) → OneOf (1 ∷ 2 ∷ []) (tagOf the-type f) → partOf block f ≡ refusedPart (foundNumber f)

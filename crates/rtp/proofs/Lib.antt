@@ -1,9 +1,3 @@
-pub mod Reading
-pub mod Walks
-pub mod Stepping
-pub mod Locating
 pub mod Handing
+pub mod Locating
 pub mod Masking
-pub mod Alike
-pub mod Naming
-pub mod Covering

@@ -6,13 +6,14 @@ use Prim.Native.Nat.{ℕ, _+_, _≤_}
 use lib.Dec.{eqb}
 use lib.ListN.{drop}
 use Rattle.bits.specs.Pick.{pick}
-use Rattle.rtp.specs.declared.element.Element.{Element}
-use Rattle.rtp.specs.declared.element.Found.{Found}
-use Rattle.rtp.specs.declared.element.Found.the-variants.{At, Absent, Past}
-use Rattle.rtp.specs.Elements.{NextByte, twoByte, startOf, within, wholeFrom, wholeOf, elementsFrom, elementsOf}
+use Rattle.rtp_elements.specs.declared.element.Element.{Element}
+use Rattle.rtp_elements.specs.declared.element.Found.{Found}
+use Rattle.rtp_elements.specs.declared.element.Found.the-variants.{At, Absent, Past}
+use Rattle.rtp_elements.specs.Elements.{NextByte, twoByte, startOf, within, wholeFrom, wholeOf, elementsFrom, elementsOf}
 use Rattle.rtp.specs.Finding.{firstWith, locatedOf}
-use Rattle.rtp.specs.Steps.{Inside, nextOf, keptOf}
-use Rattle.rtp.proofs.Stepping.{Stepped, Over, next-past}
+use Rattle.rtp.specs.Steps.{Inside, keptOf}
+use Rattle.rtp_elements.specs.Next.{nextOf}
+use Rattle.rtp_elements.proofs.Stepping.{Stepped, Over, next-past}
 
 -- what was found, once these elements are looked through too
 abbrev onward : Found → ℕ → List Element → Found

@@ -12,15 +12,15 @@ use types.Run.{OneOf}
 use Rattle.bits.specs.Pick.{pick}
 use Rattle.bits.specs.Xor.{xorPad, xorList}
 use Rattle.bits.proofs.Xor.{length-pad, pad-ext, pad-none}
-use Rattle.rtp.specs.declared.element.Element.{Element}
-use Rattle.rtp.specs.declared.element.Found.{Found}
-use Rattle.rtp.specs.declared.element.Found.the-variants.{At, Absent, Past}
-use Rattle.rtp.specs.Elements.{NextByte, twoByte, startOf, within, wholeFrom, wholeOf}
-use Rattle.rtp.specs.Mask.{maskOf, maskedOf}
-use Rattle.rtp.specs.Steps.{nextOf}
-use Rattle.rtp.proofs.element.Found.{the-type}
-use Rattle.rtp.proofs.Walks.{maskedFrom}
-use Rattle.rtp.proofs.Stepping.{toMask, Stepped, Over, next-absent, next-past, next-over}
+use Rattle.rtp_elements.specs.declared.element.Element.{Element}
+use Rattle.rtp_elements.specs.declared.element.Found.{Found}
+use Rattle.rtp_elements.specs.declared.element.Found.the-variants.{At, Absent, Past}
+use Rattle.rtp_elements.specs.Elements.{NextByte, twoByte, startOf, within, wholeFrom, wholeOf}
+use Rattle.rtp_elements.specs.Mask.{maskOf, maskedOf}
+use Rattle.rtp_elements.specs.Next.{nextOf}
+use Rattle.rtp_elements.proofs.element.Found.{the-type}
+use Rattle.rtp_elements.proofs.Walks.{maskedFrom}
+use Rattle.rtp_elements.proofs.Stepping.{toMask, Stepped, Over, next-absent, next-past, next-over}
 
 module _ (listed : ℕ → Bool) (tag : ℕ) (pad : ℕ → ℕ) where
   -- place i is reached: what is still to do, applied to the present block, is the goal

@@ -8,19 +8,14 @@ use lib.ListN.{length, take, drop}
 use Rattle.bits.specs.Pick.{pick}
 use Rattle.bits.specs.Refusals.{numberOf}
 use Rattle.bits.specs.declared.refusal.Refusal.the-variants as refusal
-use Rattle.rtp.specs.declared.element.Element.{Element}
-use Rattle.rtp.specs.declared.element.Found.{Found}
-use Rattle.rtp.specs.declared.element.Found.the-variants.{At, Absent, Past}
-use Rattle.rtp.specs.declared.header.Header.{Header}
-use Rattle.rtp.specs.declared.header.Header.the-variants.{Read, Refused}
-use Rattle.rtp.specs.Elements.{wholeOf, elementsOf}
-use Rattle.rtp.specs.Header.{blockOf, headerOf, headerNumber}
-
--- document 01's number for what was found; `partOf` adds the values
-abbrev pub foundNumber : Found → ℕ
-foundNumber (At e) = 0
-foundNumber Absent = numberOf refusal.Absent
-foundNumber Past = numberOf refusal.Element
+use Rattle.rtp_elements.specs.declared.element.Element.{Element}
+use Rattle.rtp_elements.specs.declared.element.Found.{Found}
+use Rattle.rtp_elements.specs.declared.element.Found.the-variants.{At, Absent, Past}
+use Rattle.rtp_header.specs.declared.header.Header.{Header}
+use Rattle.rtp_header.specs.declared.header.Header.the-variants.{Read, Refused}
+use Rattle.rtp_elements.specs.Elements.{wholeOf, elementsOf}
+use Rattle.rtp_elements.specs.Numbers.{foundNumber}
+use Rattle.rtp_header.specs.Header.{blockOf, headerOf, headerNumber}
 
 -- the first of these elements with an id
 abbrev pub firstWith : ℕ → List Element → Found

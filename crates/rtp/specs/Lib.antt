@@ -1,6 +1,2 @@
-pub mod Header
-pub mod Elements
 pub mod Finding
-pub mod Mask
-pub mod Claims
 pub mod Steps

@@ -1,11 +1,11 @@
 // Finding an element of a packet: its data as a part of the caller's packet, and the answer beside it.
-use crate::element::Element;
-use crate::element::Found;
-use crate::element::found_number;
-use crate::element::next;
-use crate::header::Header;
-use crate::header::header_number;
-use crate::header::read_header;
+use rtp_elements::element::Element;
+use rtp_elements::element::Found;
+use rtp_elements::element::found_number;
+use rtp_elements::element::next;
+use rtp_header::header::Header;
+use rtp_header::header::header_number;
+use rtp_header::header::read_header;
 ghost use mathlib.Core.Path.{_≡_};
 ghost use lib.ListN.{length};
 ghost use Rattle.rtp.specs.Finding.{locatedOf, findOf, HandedBack};

@@ -1,13 +1,13 @@
 // Encrypting and decrypting chosen elements of a header extension in place.
-use crate::element::Found;
-use crate::element::next;
+use rtp_elements::element::Found;
+use rtp_elements::element::next;
 ghost use mathlib.Core.Path.{_≡_};
 ghost use mathlib.Core.Bool.{true};
 ghost use Prim.Native.Nat.{_≤_};
 ghost use lib.ListN.{length, getD};
 ghost use Rattle.bits.specs.Xor.{xorList};
-ghost use Rattle.rtp.specs.Elements.{wholeOf};
-ghost use Rattle.rtp.specs.Mask.{listedIn, maskedOf};
+ghost use Rattle.rtp_elements.specs.Elements.{wholeOf};
+ghost use Rattle.rtp_elements.specs.Mask.{listedIn, maskedOf};
 
 fn xor_bytes(part: &mut [u8], pad: &[u8])
     requires { ⌜ length (now part) ≤ length (now pad) ⌝ }

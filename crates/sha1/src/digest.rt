@@ -1,9 +1,9 @@
 // The whole: SHA-1 of a message.
-use crate::message::finish;
+use sha1_message::message::finish;
 ghost use mathlib.Core.Path.{_≡_};
 ghost use Prim.Native.Nat.{_<_, _^_};
 ghost use lib.ListN.{length};
-ghost use Rattle.sha1.specs.Hash.{startOf, digestOf, sha1Of};
+ghost use Rattle.sha1_compress.specs.Hash.{startOf, digestOf, sha1Of};
 
 // The initial hash value.
 pub fn start() -> [u32; 5]

@@ -1,6 +1,3 @@
-// SHA-1 of a message of any length, the message in one part or in two.
-// Follows FIPS 180-4, whose sections the definitions in specs/ name.
-pub mod compress;
+// SHA-1 of a message: the initial hash value, the hash of the whole, and the digest.
+// Follows FIPS 180-4, sections 5.3.1 and 6.1, whose definitions are in sha1_compress.
 pub mod digest;
-pub mod message;
-mod word;

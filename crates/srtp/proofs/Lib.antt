@@ -1,5 +1,2 @@
-pub mod Places
-pub mod Flags
-pub mod Streams
-pub mod Calls
-pub mod Adding
+pub mod Asking
+pub mod Fronts

@@ -1,5 +1,2 @@
-pub mod Records
-pub mod Making
-pub mod Adding
+pub mod Finding
 pub mod Packets
-pub mod Steps

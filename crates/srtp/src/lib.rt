@@ -1,12 +1,5 @@
-// A session, its streams and its calls: make, add, protect, unprotect and find. What the calls mean stands in specs/.
-// Follows document 01.
-pub mod add;
-pub mod fields;
+// The packet calls on lent session memory: protect and unprotect; and find for a caller that cannot be lent a part of its packet. Nothing is required of it.
+// Follows document 01, "Numbers given back"; RFC 3711, RFC 9335 and RFC 6904 through the crates below.
 pub mod find;
-pub mod make;
 pub mod protect;
-pub mod records;
-pub mod session;
-mod settle;
-pub mod stream;
 pub mod unprotect;

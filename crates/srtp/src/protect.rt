@@ -1,46 +1,21 @@
 // A packet protected in its buffer.
-use crate::fields::ssrc;
-use crate::records::Place;
-use crate::records::place_of;
-use crate::session::Done;
-use crate::session::Session;
-use crate::settle::refused;
-use crate::settle::settled;
-use crate::settle::unread;
-use crate::stream::protect_stream;
-use bits::refusal::Refusal;
-use packet::judge::added;
-use packet::judge::judge;
-use packet::policy::Way;
-use rtp::header::Header;
-ghost use mathlib.Core.Path.{_≡_};
-ghost use Rattle.srtp.specs.Packets.{doneOf, protectOf};
+use front::open::open;
+use front::open::unopened;
+use policies::policy::Way;
+use rtp_header::header::Header;
+use session::answer::Answer;
+use streams::stream::protect_stream;
+ghost use Rattle.session.specs.Calls.{Gives, protectCall};
 
-// The packet of n bytes at the start of the buffer becomes the protected one, whose length is given back; the bytes after it stay. Refusals 1 to 11
-// change nothing.
-pub fn protect(session: Session, buf: &mut [u8], n: usize) -> Done
-    ensures { λ r. ⌜ r ≡ doneOf (protectOf session (now (buf .entry)) n) ⌝ }
-    ensures { λ r. ⌜ now (buf .exit) ≡ protectOf session (now (buf .entry)) n .answer .buffer ⌝ }
+// The packet of n bytes at the start of the buffer becomes the protected one, whose length is given back; the bytes after it stay, and of the session
+// only the stream's replay state changes. Refusals 1 to 11, and 100 for memory of another size, change nothing.
+pub fn protect(session: &mut [u64], buf: &mut [u8], n: usize) -> Answer
+    ensures { λ r. ⌜ Gives (protectCall (now (session .entry)) (now (buf .entry)) n) r (now (buf .exit)) (now (session .exit)) ⌝ }
 {
-    if buf.len() < n {
-        return refused(session, Refusal::Length);
-    }
-    let setup = session.setup;
-    let policy = setup.policy;
-    let header = judge(&buf[0..n], Way::Sending, policy, 10);
+    let opened = open(session, buf, n, Way::Sending);
+    let header = opened.header;
     let Header::Read(h) = header else {
-        return unread(session, header);
+        return unopened(opened);
     };
-    if buf.len() - n < added(Way::Sending, policy, h, 10) {
-        return refused(session, Refusal::Room);
-    }
-    let own = ssrc(&buf[0..n]);
-    let Place::At(i) = place_of(session, own, Way::Sending) else {
-        return refused(session, Refusal::Stream);
-    };
-    let r = session.records[i];
-    let keys = setup.keys;
-    let ids = setup.ids;
-    let step = protect_stream(keys, policy, &ids, r, buf, n, h);
-    settled(session, i, step)
+    protect_stream(session, opened.place, opened.index, buf, n, h)
 }

@@ -1,42 +1,48 @@
-// Document 01's sums run through the proved code: the file `stdout` beside src/ has what document 01 says.
+// Document 01's sums run through the proved code: of the files beside src/, `stdin` has the sums, one to a line, and `stdout` what document 01 says.
 // Follows document 01, "Sums on the bench".
-mod limits;
-mod print;
+mod indices;
+mod packets;
 
-use replay::receive::receive;
-use replay::send::send;
-use replay::state::fresh;
+use libc::STDIN_FILENO;
+use lines::asked::ask;
+use lines::cut::find;
+use lines::cut::first;
+use session::layout::SIZE;
 
-// SEQ received where the highest accepted index is rollover * 65,536 + low, the only one accepted.
-fn received(name: &[u8], rollover: u32, low: u16, sequence: u16) {
-    let first = receive(fresh(), rollover, low);
-    let state = first.state;
-    let answer = receive(state, rollover, sequence);
-    let judged = answer.judged;
-    print::answer(name, judged);
+// A sum of the numbers in a line's name and, of packets, the hex behind it. Which one it is, the first letter says: G and h ask what a receiver makes
+// of a SEQ, p and a which length fits, A which room, and i is a packet from one session to the other.
+fn answer(line: &[u8], sender: &mut [u64], receiver: &mut [u64]) {
+    let asked = ask(line, b": ");
+    let before = asked.before;
+    let last = asked.last;
+    let at = asked.data;
+    let hex = &line[at..];
+    match first(line) {
+        b'S' => indices::sent(before, last),
+        b'p' => packets::protected(0, hex, last as usize, 4096),
+        b'a' => packets::protected(1, hex, last as usize, 4096),
+        b'A' => packets::protected(1, hex, hex.len() / 2, last as usize),
+        b'i' => packets::passes(sender, receiver, hex),
+        _ => indices::received(before, last),
+    }
 }
 
-// SEQ sent where the last index sent is rollover * 65,536 + low.
-fn sent(name: &[u8], rollover: u32, low: u16, sequence: u16) {
-    let first = send(fresh(), rollover, low);
-    let state = first.state;
-    let answer = send(state, rollover, sequence);
-    let judged = answer.judged;
-    print::answer(name, judged);
+// The packets pass between the same two sessions.
+fn run(text: &[u8], sender: &mut [u64], receiver: &mut [u64]) {
+    let mut from: usize = 0;
+    while from < text.len() {
+        let end = find(text, from, b'\n');
+        answer(&text[from..end], sender, receiver);
+        from = end + 1;
+    }
 }
 
 fn main() {
-    received(b"G1 highest 65535, SEQ 0: ", 0, 65535, 0);
-    received(b"G2 highest 65536, SEQ 65535: ", 1, 0, 65535);
-    received(b"G3 highest 0, SEQ 65535: ", 0, 0, 65535);
-    received(b"G4 highest 0, SEQ 32768: ", 0, 0, 32768);
-    received(b"G5 highest 32768, SEQ 0: ", 0, 32768, 0);
-    received(b"G6 highest 32769, SEQ 0: ", 0, 32769, 0);
-    received(b"G7 highest 281474976710655, SEQ 0: ", 4294967295, 65535, 0);
-    sent(b"S1 last sent 0, SEQ 32767: ", 0, 0, 32767);
-    sent(b"S1 last sent 0, SEQ 32768: ", 0, 0, 32768);
-    sent(b"S2 last sent 65535, SEQ 0: ", 0, 65535, 0);
-    received(b"highest 100, SEQ 37: ", 0, 100, 37);
-    received(b"highest 100, SEQ 36: ", 0, 100, 36);
-    limits::run();
+    let mut text = io::buffer();
+    let n = io::read_full(STDIN_FILENO, &mut text);
+    let mut sender = [0u64; SIZE];
+    let mut receiver = [0u64; SIZE];
+    packets::begin(&mut sender, 0, 0);
+    packets::begin(&mut receiver, 0, 1);
+    run(&text[..n], &mut sender, &mut receiver);
 }

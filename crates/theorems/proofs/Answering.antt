@@ -9,21 +9,20 @@ use lib.ListN.{length, take}
 use Rattle.bits.specs.Refusals.{numberOf}
 use Rattle.bits.specs.declared.refusal.Refusal.{Refusal}
 use Rattle.bits.specs.declared.refusal.Refusal.the-variants.{Length, Short, Version, Header as NoHeader, Profile, Element, Large, Room, Stream, Order, Worn, Old, Repeat, Tag, Keys, Policy as NoPolicy, Twice, Full, Absent}
-use Rattle.rtp.specs.Mask.{among}
-use Rattle.rtp.specs.declared.element.Found.{Found as Located}
-use Rattle.rtp.specs.declared.element.Found.the-variants.{At, Absent as NotThere, Past}
-use Rattle.rtp.specs.declared.header.Header.{Header}
-use Rattle.rtp.specs.declared.header.Header.the-variants.{Read, Refused}
+use Rattle.rtp_elements.specs.Mask.{among}
+use Rattle.rtp_elements.specs.declared.element.Found.{Found as Located}
+use Rattle.rtp_elements.specs.declared.element.Found.the-variants.{At, Absent as NotThere, Past}
+use Rattle.rtp_header.specs.declared.header.Header.{Header}
+use Rattle.rtp_header.specs.declared.header.Header.the-variants.{Read, Refused}
 use Rattle.rtp.specs.Finding.{locatedOf, Part, partOf, foundIn, findOf}
-use Rattle.rtp.specs.Header.{blockOf, headerOf, ssrcOf}
-use Rattle.packet.specs.declared.policy.Way.{Way}
-use Rattle.packet.specs.declared.policy.Way.the-variants.{Sending, Receiving}
-use Rattle.srtp.specs.declared.session.Setup.{Setup}
-use Rattle.srtp.specs.declared.session.Session.{Session}
-use Rattle.srtp.specs.Records.{Found, hasSsrc, isFull}
-use Rattle.srtp.specs.Making.{unmade, sessionOf, makeOf}
-use Rattle.srtp.specs.Adding.{addOf}
-use Rattle.srtp.specs.Packets.{listedBy, Effect, refuse, give, protectEffect, unprotectEffect, settled, protectOf, unprotectOf}
+use Rattle.rtp_header.specs.Header.{blockOf, headerOf, ssrcOf}
+use Rattle.policies.specs.declared.policy.Way.{Way}
+use Rattle.policies.specs.declared.policy.Way.the-variants.{Sending, Receiving}
+use Rattle.session.specs.Session.{Setup, Session}
+use Rattle.session.specs.Records.{Found, hasSsrc, isFull}
+use Rattle.session.specs.Making.{unmade, sessionOf, makeOf}
+use Rattle.session.specs.Adding.{addOf}
+use Rattle.session.specs.Packets.{listedBy, Effect, refuse, give, protectEffect, unprotectEffect, settled, protectOf, unprotectOf}
 use Rattle.theorems.specs.Answers.{numbersFor, Settled, OneAnswerEach}
 use Rattle.theorems.specs.Lists.{End, Call, add, protect, unprotect, addOutcome, outcomeOf}
 use Rattle.theorems.proofs.Records.{addBy}

@@ -11,38 +11,35 @@ use lib.Seq.{take-at}
 use Rattle.bits.specs.BigEndian.{fromBytes}
 use Rattle.bits.specs.Pick.{pick}
 use Rattle.bits.specs.declared.refusal.Refusal.{Refusal}
-use Rattle.rtp.specs.declared.header.Header.the-variants.{Read}
-use Rattle.rtp.specs.Header.{layoutOf, seqOf, ssrcOf}
+use Rattle.bits.proofs.Refusals.{above-zero}
+use Rattle.bits.specs.Lists.{Each}
+use Rattle.rtp_header.specs.declared.header.Header.the-variants.{Read}
+use Rattle.rtp_header.specs.Header.{layoutOf, seqOf, ssrcOf}
 use Rattle.replay.specs.declared.answer.Judged.{Judged}
 use Rattle.replay.specs.declared.answer.Judged.the-variants.{Index, Refused as NoIndex}
 use Rattle.replay.specs.declared.answer.Told.{Told}
-use Rattle.replay.specs.declared.receive.Received.{Received}
-use Rattle.replay.specs.declared.state.ReplayState.{ReplayState}
+use Rattle.replay.specs.Receive.{Received, receiveOf}
+use Rattle.replay.specs.State.{ReplayState, afterOf}
 use Rattle.replay.specs.Answers.{toldOf}
 use Rattle.replay.specs.Guess.{lowOf}
-use Rattle.replay.specs.Ledger.{highestOf, holds, given, refused, enter, Near}
-use Rattle.replay.specs.Receive.{receiveOf}
-use Rattle.replay.specs.State.{afterOf}
 use Rattle.replay.specs.Window.{blocks, width}
-use Rattle.replay.proofs.Ledger.{Remembers, fresh-remembers, Agrees, received-by-ledger, near-right}
-use Rattle.packet.specs.declared.policy.Policy.{Policy}
-use Rattle.packet.specs.declared.policy.Way.the-variants.{Sending, Receiving}
-use Rattle.packet.specs.Claims.{RoundTrip}
-use Rattle.packet.specs.Cryptex.{addsBlock, givenBackOf}
-use Rattle.packet.specs.Judging.{judgedOf}
-use Rattle.packet.specs.Wire.{wireOf, restoreOf, tagFits}
-use Rattle.packet.proofs.Layouts.{apart, layout-extension}
-use Rattle.packet.proofs.RoundTrips.{passed, judged, sent-is-given-back}
-use Rattle.srtp.specs.declared.session.Record.{Record}
-use Rattle.srtp.specs.declared.session.Setup.{Setup}
-use Rattle.srtp.specs.declared.session.Session.{Session}
-use Rattle.srtp.specs.Records.{some, withReplay, freshRecord}
-use Rattle.srtp.specs.Packets.{tagLength, listedBy, Effect, refuse, give, unprotectAt, unprotectEffect, Outcome, settled, protectOf, unprotectOf}
-use Rattle.theorems.specs.Lists.{sender, receiver, Call, add, protect, unprotect, Sessions, justMade, Event, eventsOf, Each}
+use Rattle.ledger.specs.Ledger.{highestOf, holds, given, refused, enter, Near}
+use Rattle.ledger.proofs.Ledger.{Remembers, fresh-remembers, Agrees, received-by-ledger, near-right}
+use Rattle.policies.specs.declared.policy.Policy.{Policy}
+use Rattle.policies.specs.declared.policy.Way.the-variants.{Sending, Receiving}
+use Rattle.wire.specs.Claims.{RoundTrip}
+use Rattle.policies.specs.Cryptex.{addsBlock}
+use Rattle.wire.specs.Wire.{givenBackOf, wireOf, restoreOf, tagFits}
+use Rattle.policies.specs.Judging.{judgedOf}
+use Rattle.policies.proofs.Layouts.{apart, layout-extension}
+use Rattle.wire.proofs.RoundTrips.{passed, judged, sent-is-given-back}
+use Rattle.session.specs.Session.{Record, Setup, Session}
+use Rattle.session.specs.Records.{some, withReplay, freshRecord}
+use Rattle.session.specs.Packets.{tagLength, listedBy, Effect, refuse, give, unprotectAt, unprotectEffect, Outcome, settled, protectOf, unprotectOf}
+use Rattle.theorems.specs.Lists.{sender, receiver, Call, add, protect, unprotect, Sessions, justMade, Event, eventsOf}
 use Rattle.theorems.specs.Sent.{Sent, noPacket}
 use Rattle.theorems.specs.Arrivals.{Mark, unmarked, carries, Arrival, arrivalAt, otherAt, arrivalsOf, othersOf, Carries, AllNear, Premises, Right, AsTheLedger, ArrivalsFollowTheLedger}
 use Rattle.theorems.proofs.Records.{found-stored}
-use Rattle.theorems.proofs.Refusing.{above-zero}
 use Rattle.theorems.proofs.Holding.{protectDone, unprotectDone, Holds, holds-add, holds-settled, Behind, behind-add}
 use Rattle.theorems.proofs.Sending.{Good, trip, setup, made-setup, all-sent}
 

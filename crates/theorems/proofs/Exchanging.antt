@@ -8,11 +8,10 @@ use lib.ListN.{length}
 use Rattle.bits.specs.Refusals.{numberOf}
 use Rattle.bits.specs.declared.refusal.Refusal.{Refusal}
 use Rattle.bits.specs.declared.refusal.Refusal.the-variants as refusal
-use Rattle.packet.specs.declared.policy.Way.{Way}
-use Rattle.srtp.specs.declared.session.Setup.{Setup}
-use Rattle.srtp.specs.declared.session.Session.{Session}
-use Rattle.srtp.specs.Records.{Found, recordFor}
-use Rattle.srtp.specs.Packets.{listedBy, Effect, refuse, give, protectEffect, unprotectEffect, Answer, Outcome, settled, protectOf, unprotectOf}
+use Rattle.policies.specs.declared.policy.Way.{Way}
+use Rattle.session.specs.Session.{Setup, Session}
+use Rattle.session.specs.Records.{Found, recordFor}
+use Rattle.session.specs.Packets.{listedBy, Effect, refuse, give, protectEffect, unprotectEffect, Answer, Outcome, settled, protectOf, unprotectOf}
 use Rattle.theorems.specs.Answers.{bufferOf}
 use Rattle.theorems.specs.Lists.{End, sender, receiver, Call, add, protect, unprotect, endOf, Sessions, sessionAt, withSession, outcomeOf, answerOf, next, Event, event, after, eventsOf}
 use Rattle.theorems.specs.Places.{IsPacketCall, ssrcIn, wayIn, LengthOrShort, DifferentStreams, exchanged, NeighboursChangePlaces}

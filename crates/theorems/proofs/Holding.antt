@@ -8,19 +8,18 @@ use borrow.Author.Tests.{ne-eqb, eqb-true}
 use lib.Dec.{eqb}
 use lib.ListN.{getD, take, drop}
 use Rattle.bits.specs.Refusals.{numberOf}
-use Rattle.rtp.specs.Header.{ssrcOf}
-use Rattle.packet.specs.declared.policy.Way.{Way}
-use Rattle.packet.specs.declared.policy.Way.the-variants.{Sending, Receiving}
-use Rattle.srtp.specs.declared.session.Record.{Record}
-use Rattle.srtp.specs.declared.session.Setup.{Setup}
-use Rattle.srtp.specs.declared.session.Session.{Session}
-use Rattle.srtp.specs.Records.{none, some, recordFor, hasSsrc, freshRecord}
-use Rattle.srtp.specs.Adding.{addOf}
-use Rattle.srtp.specs.Packets.{listedBy, Effect, refuse, give, protectEffect, unprotectEffect, settled, protectOf, unprotectOf}
-use Rattle.theorems.specs.Lists.{End, sender, receiver, Call, add, protect, unprotect, endOf, Sessions, sessionAt, withSession, outcomeOf, answerOf, next, Event, event, eventsOf, Each, Bytes}
+use Rattle.bits.proofs.Refusals.{above-zero}
+use Rattle.bits.specs.Lists.{Each}
+use Rattle.rtp_header.specs.Header.{ssrcOf}
+use Rattle.policies.specs.declared.policy.Way.{Way}
+use Rattle.policies.specs.declared.policy.Way.the-variants.{Sending, Receiving}
+use Rattle.session.specs.Session.{Record, Setup, Session}
+use Rattle.session.specs.Records.{none, some, recordFor, hasSsrc, freshRecord}
+use Rattle.session.specs.Adding.{addOf}
+use Rattle.session.specs.Packets.{listedBy, Effect, refuse, give, protectEffect, unprotectEffect, settled, protectOf, unprotectOf}
+use Rattle.theorems.specs.Lists.{End, sender, receiver, Call, add, protect, unprotect, endOf, Sessions, sessionAt, withSession, outcomeOf, answerOf, next, Event, event, eventsOf, Bytes}
 use Rattle.theorems.specs.Sent.{Last, sentFrom, added, noEvent}
 use Rattle.theorems.proofs.Records.{none-found, stored-ssrc, add-found, add-setup, add-new, add-made, add-absent, add-keeps}
-use Rattle.theorems.proofs.Refusing.{above-zero}
 use Rattle.theorems.proofs.Settling.{setup-settled, found-settled, none-given}
 
 -- what a packet call does, in its session

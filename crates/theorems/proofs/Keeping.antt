@@ -12,23 +12,21 @@ use Rattle.bits.proofs.Lists.{tabulate-ext}
 use Rattle.bits.specs.Bits.{packed}
 use Rattle.bits.specs.Pick.{pick}
 use Rattle.bits.specs.declared.refusal.Refusal.the-variants as refusal
-use Rattle.rtp.specs.Mask.{among}
-use Rattle.rtp.specs.declared.header.Header.{Header}
-use Rattle.rtp.specs.declared.header.Header.the-variants.{Read, Refused}
-use Rattle.rtp.specs.Header.{ssrcOf}
-use Rattle.replay.specs.declared.state.ReplayState.{ReplayState}
-use Rattle.packet.specs.declared.policy.Way.{Way}
-use Rattle.packet.specs.declared.policy.Way.the-variants.{Sending, Receiving}
-use Rattle.packet.specs.Judging.{judgedOf}
-use Rattle.packet.proofs.Layouts.{apart}
-use Rattle.srtp.specs.declared.session.Record.{Record}
-use Rattle.srtp.specs.declared.session.Setup.{Setup}
-use Rattle.srtp.specs.declared.session.Session.{Session}
-use Rattle.srtp.specs.Records.{isFree, isFor, freePlace, freshRecord, none, recordFor, withReplay, storeFor, hasSsrc, isFull, placed}
-use Rattle.srtp.specs.Making.{counts, idsOf, unmade, sessionOf, makeOf}
-use Rattle.srtp.specs.Adding.{addOf}
-use Rattle.srtp.specs.Packets.{listedBy, tagLength, Effect, refuse, give, unprotectRead, unprotectEffect, settled, protectOf, unprotectOf}
-use Rattle.srtp.proofs.Flags.{ids-listed}
+use Rattle.rtp_elements.specs.Mask.{among}
+use Rattle.rtp_header.specs.declared.header.Header.{Header}
+use Rattle.rtp_header.specs.declared.header.Header.the-variants.{Read, Refused}
+use Rattle.rtp_header.specs.Header.{ssrcOf}
+use Rattle.replay.specs.State.{ReplayState}
+use Rattle.policies.specs.declared.policy.Way.{Way}
+use Rattle.policies.specs.declared.policy.Way.the-variants.{Sending, Receiving}
+use Rattle.policies.specs.Judging.{judgedOf}
+use Rattle.policies.proofs.Layouts.{apart}
+use Rattle.session.specs.Session.{Record, Setup, Session}
+use Rattle.session.specs.Records.{isFree, isFor, freePlace, freshRecord, none, recordFor, withReplay, storeFor, hasSsrc, isFull, placed}
+use Rattle.session.specs.Making.{counts, idsOf, unmade, sessionOf, makeOf}
+use Rattle.session.specs.Adding.{addOf}
+use Rattle.session.specs.Packets.{listedBy, tagLength, Effect, refuse, give, unprotectRead, unprotectEffect, settled, protectOf, unprotectOf}
+use Rattle.session.proofs.Ids.{ids-listed}
 use Rattle.theorems.specs.Lists.{End, sender, receiver, Call, add, protect, unprotect, Sessions, sessionAt, outcomeOf, next, after, justMade}
 use Rattle.theorems.specs.Sessions.{NoSsrcTwice, Sound, SessionsAreSound, EqualSetsEqualSessions, WordsAreTheSet}
 use Rattle.theorems.proofs.Records.{clash, or-false, free-for, stored-ssrc, addBy}

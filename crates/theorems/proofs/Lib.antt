@@ -8,3 +8,4 @@ pub mod Exchanging
 pub mod Answering
 pub mod Keeping
 pub mod Meeting
+pub mod Memories

@@ -8,22 +8,23 @@ use borrow.Author.Tests.{ltb-true}
 use lib.Dec.{ltb}
 use lib.ListN.{length, getD, take, drop, replicate, List·getD-append}
 use lib.Seq.{take-at, getD-take}
-use Rattle.rtp.specs.Header.{headerNumber, layoutOf, boundedOf, headerOf, seqOf, ssrcOf}
-use Rattle.rtp.specs.Mask.{listedIn}
+use Rattle.bits.specs.Lists.{Each}
+use Rattle.rtp_header.specs.Header.{headerNumber, layoutOf, boundedOf, headerOf, seqOf, ssrcOf}
+use Rattle.rtp_elements.specs.Mask.{listedIn}
 use Rattle.replay.specs.Send.{stepOf, nextOf, sendOf}
-use Rattle.replay.specs.Ledger.{enter}
-use Rattle.packet.specs.declared.policy.Policy.{Policy}
-use Rattle.packet.specs.declared.policy.Policy.the-variants.{CryptexRequired}
-use Rattle.packet.specs.declared.policy.Way.the-variants.{Sending, Receiving}
-use Rattle.packet.specs.Cryptex.{addsBlock}
-use Rattle.packet.specs.Judging.{profileFits, judgedOf}
-use Rattle.packet.proofs.Layouts.{layout-same}
-use Rattle.packet.proofs.RoundTrips.{passed, sent-is-given-back}
-use Rattle.packet.proofs.Crypting.{and-left, and-right}
-use Rattle.srtp.specs.Making.{keysOf, idsOf, makeOf}
-use Rattle.srtp.specs.Adding.{addOf}
-use Rattle.srtp.specs.Packets.{Answer, protectEffect, unprotectEffect, protectOf, unprotectOf}
-use Rattle.theorems.specs.Lists.{sender, receiver, Call, add, protect, unprotect, Each, Bytes}
+use Rattle.ledger.specs.Ledger.{enter}
+use Rattle.policies.specs.declared.policy.Policy.{Policy}
+use Rattle.policies.specs.declared.policy.Policy.the-variants.{CryptexRequired}
+use Rattle.policies.specs.declared.policy.Way.the-variants.{Sending, Receiving}
+use Rattle.policies.specs.Cryptex.{addsBlock}
+use Rattle.policies.specs.Judging.{profileFits, judgedOf}
+use Rattle.policies.proofs.Layouts.{layout-same}
+use Rattle.wire.proofs.RoundTrips.{passed, sent-is-given-back}
+use Rattle.packet_cipher.proofs.Crypting.{and-left, and-right}
+use Rattle.session.specs.Making.{keysOf, idsOf, makeOf}
+use Rattle.session.specs.Adding.{addOf}
+use Rattle.session.specs.Packets.{Answer, protectEffect, unprotectEffect, protectOf, unprotectOf}
+use Rattle.theorems.specs.Lists.{sender, receiver, Call, add, protect, unprotect, Bytes}
 use Rattle.theorems.specs.Sent.{Sent, noneSent, sentFrom, noPacket, added, noEvent, SentAs, SentUnderItsIndex}
 use Rattle.theorems.specs.Arrivals.{Mark, Arrival, arrivalsOf, othersOf, Carries, Premises, Right, AsTheLedger, ArrivalsFollowTheLedger}
 use Rattle.theorems.specs.Example.{key, salt, voice, drums, calls, events, wire, sentAs, voice0, voice1, voice2, voice3, voice4, drums0, wrongVersion, voiceSent, drumsSent, marked, voiceMarks, drumsMarks, PremisesAreMet, answerAt, HollowProgramsDiffer}

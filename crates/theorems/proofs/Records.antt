@@ -8,18 +8,14 @@ use borrow.Author.Tests.{eq-eqb, eqb-true}
 use lib.Dec.{eqb}
 use Rattle.bits.specs.Pick.{pick}
 use Rattle.bits.specs.declared.refusal.Refusal.the-variants as refusal
-use Rattle.packet.specs.declared.policy.Way.{Way}
-use Rattle.packet.specs.declared.policy.Way.the-variants.{Sending, Receiving}
-use Rattle.packet.proofs.Crypting.{and-left, and-right}
-use Rattle.packet.proofs.Layouts.{apart}
-use Rattle.replay.specs.declared.state.ReplayState.{ReplayState}
-use Rattle.srtp.specs.declared.session.Kind.{Kind}
-use Rattle.srtp.specs.declared.session.Kind.the-variants.{Free, Sender, Receiver}
-use Rattle.srtp.specs.declared.session.Record.{Record}
-use Rattle.srtp.specs.declared.session.Session.{Session}
-use Rattle.srtp.specs.Records.{kindOf, hasWay, isFree, isFor, freshRecord, none, some, recordFor, withReplay, storeFor, hasSsrc, isFull, placed}
-use Rattle.srtp.specs.declared.session.Made.{Made}
-use Rattle.srtp.specs.Adding.{notAdded, addOf}
+use Rattle.replay.specs.State.{ReplayState}
+use Rattle.policies.specs.declared.policy.Way.{Way}
+use Rattle.policies.specs.declared.policy.Way.the-variants.{Sending, Receiving}
+use Rattle.packet_cipher.proofs.Crypting.{and-left, and-right}
+use Rattle.policies.proofs.Layouts.{apart}
+use Rattle.session.specs.Session.{Kind, Free, Sender, Receiver, Record, Session, Made}
+use Rattle.session.specs.Records.{kindOf, hasWay, isFree, isFor, freshRecord, none, some, recordFor, withReplay, storeFor, hasSsrc, isFull, placed}
+use Rattle.session.specs.Adding.{notAdded, addOf}
 
 -- ---- tests
 

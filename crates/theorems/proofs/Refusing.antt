@@ -2,7 +2,7 @@
 use mathlib.Core.Path.{_≡_, refl}
 use mathlib.Core.Bool.{Bool, true, false, not, _&&_}
 use mathlib.Core.List.{List}
-use Prim.Native.Nat.{ℕ, _+_, _-_, _*_, _^_, _≤_, _<_}
+use Prim.Native.Nat.{ℕ, _+_, _-_, _*_, _^_, _≤_}
 use native.Mathlib.Omega.{arith}
 use lib.Dec.{eqb, ltb, leb}
 use lib.IntN.{ℤ, pos, negsuc}
@@ -10,48 +10,25 @@ use lib.ListN.{length, take}
 use Rattle.bits.specs.Pick.{pick}
 use Rattle.bits.specs.Refusals.{numberOf}
 use Rattle.bits.specs.declared.refusal.Refusal.{Refusal}
-use Rattle.bits.specs.declared.refusal.Refusal.the-variants.{Length, Short, Version, Header as NoHeader, Profile, Element, Large, Room, Stream, Order, Worn, Old, Repeat, Tag, Keys, Policy as NoPolicy, Twice, Full, Absent}
-use Rattle.rtp.specs.declared.header.Header.{Header}
-use Rattle.rtp.specs.declared.header.Header.the-variants.{Read, Refused}
-use Rattle.rtp.specs.declared.header.Layout.{Layout}
-use Rattle.rtp.specs.Header.{versionOf, layoutOf, boundedOf, headerOf, seqOf}
+use Rattle.bits.specs.declared.refusal.Refusal.the-variants.{Length, Short, Version, Header as NoHeader, Profile, Element, Large, Room, Order, Worn, Old, Repeat, Tag}
+use Rattle.rtp_header.specs.declared.header.Header.{Header}
+use Rattle.rtp_header.specs.declared.header.Header.the-variants.{Read, Refused}
+use Rattle.rtp_header.specs.declared.header.Layout.{Layout}
+use Rattle.rtp_header.specs.Header.{versionOf, layoutOf, boundedOf, headerOf, seqOf}
 use Rattle.replay.specs.declared.answer.Judged.{Judged}
 use Rattle.replay.specs.declared.answer.Judged.the-variants.{Index, Refused as NoIndex}
-use Rattle.replay.specs.declared.state.ReplayState.{ReplayState}
+use Rattle.replay.specs.State.{ReplayState, judgeOf}
 use Rattle.replay.specs.Receive.{indexFor, judgeIndex, receiveOf}
 use Rattle.replay.specs.Send.{stepOf, nextOf, sendOf}
-use Rattle.replay.specs.State.{judgeOf}
 use Rattle.replay.specs.Window.{blocks, width, seenIn}
-use Rattle.packet.specs.declared.policy.Policy.{Policy}
-use Rattle.packet.specs.declared.policy.Way.{Way}
-use Rattle.packet.specs.declared.policy.Way.the-variants.{Sending, Receiving}
-use Rattle.packet.specs.Judging.{tailOf, profileFits, elementsFit, sizeFits, judgedAfter, judgedOf}
-use Rattle.packet.specs.Wire.{tagFits}
-use Rattle.srtp.specs.declared.session.Setup.{Setup}
-use Rattle.srtp.specs.Records.{Found, none, some}
-use Rattle.srtp.specs.Packets.{listedBy, tagLength, Effect, refuse, give, wireLength, protectAt, protectIn, protectRead, protectEffect, unprotectAt, unprotectIn, unprotectRead, unprotectEffect}
-
--- no refusal has number 0
-pub above-zero : (r : Refusal) → 0 < numberOf r
-above-zero Length = omega arith
-above-zero Short = omega arith
-above-zero Version = omega arith
-above-zero NoHeader = omega arith
-above-zero Profile = omega arith
-above-zero Element = omega arith
-above-zero Large = omega arith
-above-zero Room = omega arith
-above-zero Stream = omega arith
-above-zero Order = omega arith
-above-zero Worn = omega arith
-above-zero Old = omega arith
-above-zero Repeat = omega arith
-above-zero Tag = omega arith
-above-zero Keys = omega arith
-above-zero NoPolicy = omega arith
-above-zero Twice = omega arith
-above-zero Full = omega arith
-above-zero Absent = omega arith
+use Rattle.policies.specs.declared.policy.Policy.{Policy}
+use Rattle.policies.specs.declared.policy.Way.{Way}
+use Rattle.policies.specs.declared.policy.Way.the-variants.{Sending, Receiving}
+use Rattle.policies.specs.Judging.{tailOf, profileFits, elementsFit, sizeFits, judgedAfter, judgedOf}
+use Rattle.wire.specs.Wire.{tagFits}
+use Rattle.session.specs.Session.{Setup}
+use Rattle.session.specs.Records.{Found, none, some}
+use Rattle.session.specs.Packets.{listedBy, tagLength, Effect, refuse, give, wireLength, protectAt, protectIn, protectRead, protectEffect, unprotectAt, unprotectIn, unprotectRead, unprotectEffect}
 
 -- ---- the parts of a call
 

@@ -12,30 +12,27 @@ use lib.Seq.{take-at, getD-take, length-take-le}
 use Rattle.bits.specs.Pick.{pick}
 use Rattle.bits.specs.Refusals.{numberOf}
 use Rattle.bits.specs.declared.refusal.Refusal.the-variants as refusal
-use Rattle.rtp.specs.Header.{headerNumber, layoutOf, seqOf, ssrcOf}
+use Rattle.bits.proofs.Refusals.{above-zero}
+use Rattle.bits.specs.Lists.{Each}
+use Rattle.rtp_header.specs.Header.{headerNumber, layoutOf, seqOf, ssrcOf}
 use Rattle.replay.specs.declared.answer.Judged.the-variants.{Index}
-use Rattle.replay.specs.declared.state.ReplayState.{ReplayState}
+use Rattle.replay.specs.State.{ReplayState}
 use Rattle.replay.specs.Guess.{lowOf}
 use Rattle.replay.specs.Send.{stepOf, sentOf, sendOf}
-use Rattle.replay.proofs.Indices.{next-gives, sending}
-use Rattle.packet.specs.declared.policy.Way.the-variants.{Sending, Receiving}
-use Rattle.packet.specs.Claims.{RoundTrip}
-use Rattle.packet.specs.Judging.{addedOf, judgedOf}
-use Rattle.packet.specs.Wire.{wireOf, restoreOf}
-use Rattle.packet.proofs.Layouts.{apart}
-use Rattle.packet.proofs.RoundTrips.{sent-is-given-back}
-use Rattle.srtp.specs.declared.session.Record.{Record}
-use Rattle.srtp.specs.declared.session.Setup.{Setup}
-use Rattle.srtp.specs.declared.session.Session.{Session}
-use Rattle.srtp.specs.Records.{some, withReplay, storeFor, freshRecord}
-use Rattle.srtp.specs.declared.session.Made.{Made}
-use Rattle.srtp.specs.Making.{setupOf, sessionOf, notMade, makeOf}
-use Rattle.srtp.specs.Packets.{tagLength, listedBy, Effect, refuse, give, wireLength, protectEffect, Outcome, settled, protectOf, unprotectOf}
-use Rattle.srtp.proofs.Streams.{gives-at}
-use Rattle.theorems.specs.Lists.{sender, receiver, Call, add, protect, unprotect, Sessions, justMade, Event, eventsOf, Each, Bytes}
+use Rattle.ledger.proofs.Indices.{gives-at, next-gives, sending}
+use Rattle.policies.specs.declared.policy.Way.the-variants.{Sending, Receiving}
+use Rattle.wire.specs.Claims.{RoundTrip}
+use Rattle.policies.specs.Judging.{addedOf, judgedOf}
+use Rattle.wire.specs.Wire.{wireOf, restoreOf}
+use Rattle.policies.proofs.Layouts.{apart}
+use Rattle.wire.proofs.RoundTrips.{sent-is-given-back}
+use Rattle.session.specs.Session.{Record, Setup, Session, Made}
+use Rattle.session.specs.Records.{some, withReplay, storeFor, freshRecord}
+use Rattle.session.specs.Making.{setupOf, sessionOf, notMade, makeOf}
+use Rattle.session.specs.Packets.{tagLength, listedBy, Effect, refuse, give, wireLength, protectEffect, Outcome, settled, protectOf, unprotectOf}
+use Rattle.theorems.specs.Lists.{sender, receiver, Call, add, protect, unprotect, Sessions, justMade, Event, eventsOf, Bytes}
 use Rattle.theorems.specs.Sent.{Sent, Last, noneSent, lastSent, indexOf, sentBy, sentFrom, added, noEvent, SentAs, SentUnderItsIndex}
 use Rattle.theorems.proofs.Records.{clash, found-stored}
-use Rattle.theorems.proofs.Refusing.{above-zero}
 use Rattle.theorems.proofs.Settling.{Given, given}
 use Rattle.theorems.proofs.Holding.{protectDone, unprotectDone, Holds, holds-add, holds-settled, Behind, behind-add, nothing-before}
 

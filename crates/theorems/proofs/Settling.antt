@@ -8,23 +8,21 @@ use lib.Dec.{ltb}
 use lib.ListN.{length, take, drop}
 use Rattle.bits.specs.Pick.{pick}
 use Rattle.bits.specs.declared.refusal.Refusal.the-variants as refusal
-use Rattle.rtp.specs.declared.header.Header.{Header}
-use Rattle.rtp.specs.declared.header.Header.the-variants.{Read, Refused}
-use Rattle.rtp.specs.Header.{headerNumber, seqOf, ssrcOf}
+use Rattle.rtp_header.specs.declared.header.Header.{Header}
+use Rattle.rtp_header.specs.declared.header.Header.the-variants.{Read, Refused}
+use Rattle.rtp_header.specs.Header.{headerNumber, seqOf, ssrcOf}
 use Rattle.replay.specs.declared.answer.Judged.{Judged}
 use Rattle.replay.specs.declared.answer.Judged.the-variants.{Index, Refused as NoIndex}
-use Rattle.replay.specs.declared.state.ReplayState.{ReplayState}
+use Rattle.replay.specs.State.{ReplayState}
 use Rattle.replay.specs.Send.{sendOf}
-use Rattle.packet.specs.declared.policy.Way.{Way}
-use Rattle.packet.specs.declared.policy.Way.the-variants.{Sending}
-use Rattle.packet.specs.Judging.{judgedOf}
-use Rattle.packet.specs.Wire.{wireOf}
-use Rattle.packet.proofs.Layouts.{apart}
-use Rattle.srtp.specs.declared.session.Record.{Record}
-use Rattle.srtp.specs.declared.session.Setup.{Setup}
-use Rattle.srtp.specs.declared.session.Session.{Session}
-use Rattle.srtp.specs.Records.{none, some, recordFor}
-use Rattle.srtp.specs.Packets.{tagLength, listedBy, Effect, refuse, give, wireLength, protectAt, protectIn, protectRead, protectEffect, settled}
+use Rattle.policies.specs.declared.policy.Way.{Way}
+use Rattle.policies.specs.declared.policy.Way.the-variants.{Sending}
+use Rattle.policies.specs.Judging.{judgedOf}
+use Rattle.wire.specs.Wire.{wireOf}
+use Rattle.policies.proofs.Layouts.{apart}
+use Rattle.session.specs.Session.{Record, Setup, Session}
+use Rattle.session.specs.Records.{none, some, recordFor}
+use Rattle.session.specs.Packets.{tagLength, listedBy, Effect, refuse, give, wireLength, protectAt, protectIn, protectRead, protectEffect, settled}
 use Rattle.theorems.proofs.Records.{found-other, stores-commute}
 
 -- ---- what a call leaves

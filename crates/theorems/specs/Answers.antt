@@ -4,12 +4,12 @@ use mathlib.Core.Bool.{true, false}
 use mathlib.Core.List.{List, [], _∷_}
 use Prim.Native.Nat.{ℕ}
 use Rattle.rtp.specs.Finding.{findOf}
-use Rattle.rtp.specs.Mask.{among}
-use Rattle.packet.specs.declared.policy.Way.{Way}
-use Rattle.srtp.specs.declared.session.Session.{Session}
-use Rattle.srtp.specs.Making.{unmade, sessionOf, makeOf}
-use Rattle.srtp.specs.Adding.{addOf}
-use Rattle.srtp.specs.Packets.{Outcome}
+use Rattle.rtp_elements.specs.Mask.{among}
+use Rattle.policies.specs.declared.policy.Way.{Way}
+use Rattle.session.specs.Session.{Session}
+use Rattle.session.specs.Making.{unmade, sessionOf, makeOf}
+use Rattle.session.specs.Adding.{addOf}
+use Rattle.session.specs.Packets.{Outcome}
 use Rattle.theorems.specs.Lists.{Call, add, protect, unprotect, outcomeOf}
 
 -- document 01, "Numbers given back": 0 for a result, and the refusals of each call

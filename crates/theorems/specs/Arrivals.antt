@@ -6,14 +6,15 @@ use Prim.Native.Nat.{ℕ, suc, _+_, _*_, _^_, _<_}
 use lib.Dec.{eqb}
 use lib.ListN.{length, getD, set, take, drop}
 use Rattle.bits.specs.Pick.{pick}
-use Rattle.rtp.specs.Header.{countOf, layoutOf, ssrcOf}
-use Rattle.replay.specs.Ledger.{enter, Near}
-use Rattle.packet.specs.declared.policy.Policy.{Policy}
-use Rattle.packet.specs.declared.policy.Way.the-variants.{Sending, Receiving}
-use Rattle.packet.specs.Cryptex.{addsBlock}
-use Rattle.srtp.specs.Making.{policyOf}
-use Rattle.srtp.specs.Packets.{Answer}
-use Rattle.theorems.specs.Lists.{sender, receiver, Call, add, protect, unprotect, justMade, Event, event, eventsOf, Each, Bytes}
+use Rattle.bits.specs.Lists.{Each}
+use Rattle.rtp_header.specs.Header.{countOf, layoutOf, ssrcOf}
+use Rattle.ledger.specs.Ledger.{enter, Near}
+use Rattle.policies.specs.declared.policy.Policy.{Policy}
+use Rattle.policies.specs.declared.policy.Way.the-variants.{Sending, Receiving}
+use Rattle.policies.specs.Cryptex.{addsBlock}
+use Rattle.session.specs.Making.{policyOf}
+use Rattle.session.specs.Packets.{Answer}
+use Rattle.theorems.specs.Lists.{sender, receiver, Call, add, protect, unprotect, justMade, Event, event, eventsOf, Bytes}
 use Rattle.theorems.specs.Sent.{Sent, noneSent, sentFrom, noPacket, added, noEvent}
 
 -- ---- what arrives

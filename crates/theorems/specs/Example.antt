@@ -4,13 +4,14 @@ use mathlib.Core.Path.{_≡_}
 use mathlib.Core.List.{List, [], _∷_, _++_, map}
 use Prim.Native.Nat.{ℕ}
 use lib.ListN.{length, getD, drop, replicate}
-use Rattle.rtp.specs.Mask.{listedIn}
-use Rattle.packet.specs.declared.policy.Policy.the-variants.{CryptexRequired}
-use Rattle.packet.specs.declared.policy.Way.the-variants.{Sending, Receiving}
-use Rattle.packet.specs.Wire.{wireOf}
-use Rattle.srtp.specs.Making.{keysOf, idsOf}
-use Rattle.srtp.specs.Packets.{Answer}
-use Rattle.theorems.specs.Lists.{sender, receiver, Call, add, protect, unprotect, justMade, Event, event, eventsOf, Each, Bytes}
+use Rattle.bits.specs.Lists.{Each}
+use Rattle.rtp_elements.specs.Mask.{listedIn}
+use Rattle.policies.specs.declared.policy.Policy.the-variants.{CryptexRequired}
+use Rattle.policies.specs.declared.policy.Way.the-variants.{Sending, Receiving}
+use Rattle.wire.specs.Wire.{wireOf}
+use Rattle.session.specs.Making.{keysOf, idsOf}
+use Rattle.session.specs.Packets.{Answer}
+use Rattle.theorems.specs.Lists.{sender, receiver, Call, add, protect, unprotect, justMade, Event, event, eventsOf, Bytes}
 use Rattle.theorems.specs.Answers.{bufferOf}
 use Rattle.theorems.specs.Sent.{Sent, noneSent, sentFrom, added, noEvent}
 use Rattle.theorems.specs.Arrivals.{Mark, unmarked, carries, Arrival, arrivalsOf, Premises}

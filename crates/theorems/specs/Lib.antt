@@ -4,5 +4,6 @@ pub mod Sessions
 pub mod Sent
 pub mod Arrivals
 pub mod Places
+pub mod Memories
 pub mod Sums
 pub mod Example

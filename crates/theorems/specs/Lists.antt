@@ -2,12 +2,11 @@
 use mathlib.Core.List.{List, [], _∷_}
 use Prim.Native.Nat.{ℕ, _<_}
 use lib.ListN.{getD}
-use Rattle.packet.specs.declared.policy.Way.{Way}
-use Rattle.srtp.specs.declared.session.Session.{Session}
-use Rattle.srtp.specs.declared.session.Made.{Made}
-use Rattle.srtp.specs.Making.{makeOf}
-use Rattle.srtp.specs.Adding.{addOf}
-use Rattle.srtp.specs.Packets.{Answer, Outcome, protectOf, unprotectOf}
+use Rattle.policies.specs.declared.policy.Way.{Way}
+use Rattle.session.specs.Session.{Session, Made}
+use Rattle.session.specs.Making.{makeOf}
+use Rattle.session.specs.Adding.{addOf}
+use Rattle.session.specs.Packets.{Answer, Outcome, protectOf, unprotectOf}
 
 -- whose session a call is on
 pub data End : Type 0 where
@@ -79,12 +78,6 @@ pub record Run : Type 0 where
 
 abbrev pub run : Sessions → List Call → Run
 run s calls = record { events = eventsOf s calls; sessions = after s calls }
-
--- ---- about lists
-
-abbrev pub Each : {A : Type 0} → (A → Type 0) → List A → Type 0
-Each P [] = Unit {0}
-Each P (a ∷ l) = P a × Each P l
 
 -- What is handed to protect is bytes. Definitions speak of numbers, so this has to be said; the code's types say it.
 abbrev pub Bytes : Call → Type 0

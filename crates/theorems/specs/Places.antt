@@ -5,10 +5,10 @@ use mathlib.Core.List.{List, [], _∷_, _++_}
 use mathlib.Core.Logic.{_⊎_}
 use Prim.Native.Nat.{ℕ, zero, suc}
 use lib.ListN.{length, take}
-use Rattle.rtp.specs.Header.{ssrcOf}
-use Rattle.packet.specs.declared.policy.Way.{Way}
-use Rattle.packet.specs.declared.policy.Way.the-variants.{Sending, Receiving}
-use Rattle.srtp.specs.Packets.{Answer}
+use Rattle.rtp_header.specs.Header.{ssrcOf}
+use Rattle.policies.specs.declared.policy.Way.{Way}
+use Rattle.policies.specs.declared.policy.Way.the-variants.{Sending, Receiving}
+use Rattle.session.specs.Packets.{Answer}
 use Rattle.theorems.specs.Lists.{Call, add, protect, unprotect, endOf, Sessions, answerOf, next, after, run}
 
 -- "Packet calls are protect and unprotect."

@@ -6,14 +6,15 @@ use Prim.Native.Nat.{ℕ, _+_, _-_, _*_, _%_, _^_, _<_}
 use lib.Dec.{eqb}
 use lib.ListN.{getD, take}
 use Rattle.bits.specs.Pick.{pick}
-use Rattle.rtp.specs.Header.{seqOf, ssrcOf}
-use Rattle.rtp.specs.Mask.{listedIn}
-use Rattle.packet.specs.declared.policy.Way.{Way}
-use Rattle.packet.specs.declared.policy.Way.the-variants.{Sending}
-use Rattle.packet.specs.Wire.{wireOf}
-use Rattle.srtp.specs.Making.{keysOf, idsOf, policyOf}
-use Rattle.srtp.specs.Packets.{Answer}
-use Rattle.theorems.specs.Lists.{End, sender, receiver, Call, add, protect, unprotect, justMade, Event, event, eventsOf, Each, Bytes}
+use Rattle.bits.specs.Lists.{Each}
+use Rattle.rtp_header.specs.Header.{seqOf, ssrcOf}
+use Rattle.rtp_elements.specs.Mask.{listedIn}
+use Rattle.policies.specs.declared.policy.Way.{Way}
+use Rattle.policies.specs.declared.policy.Way.the-variants.{Sending}
+use Rattle.wire.specs.Wire.{wireOf}
+use Rattle.session.specs.Making.{keysOf, idsOf, policyOf}
+use Rattle.session.specs.Packets.{Answer}
+use Rattle.theorems.specs.Lists.{End, sender, receiver, Call, add, protect, unprotect, justMade, Event, event, eventsOf, Bytes}
 
 -- a packet that was sent: its index, the packet that was handed to protect, the protected packet
 pub record Sent : Type 0 where

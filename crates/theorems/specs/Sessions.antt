@@ -5,11 +5,10 @@ use mathlib.Core.List.{List, [], _∷_}
 use Prim.Native.Nat.{ℕ, _<_}
 use lib.Dec.{eqb}
 use lib.ListN.{length}
-use Rattle.rtp.specs.Mask.{among, listedIn}
-use Rattle.srtp.specs.declared.session.Record.{Record}
-use Rattle.srtp.specs.declared.session.Session.{Session}
-use Rattle.srtp.specs.Records.{isFree, hasSsrc}
-use Rattle.srtp.specs.Making.{keysOf, idsOf, unmade, sessionOf, makeOf}
+use Rattle.rtp_elements.specs.Mask.{among, listedIn}
+use Rattle.session.specs.Session.{Record, Session}
+use Rattle.session.specs.Records.{isFree, hasSsrc}
+use Rattle.session.specs.Making.{keysOf, idsOf, unmade, sessionOf, makeOf}
 use Rattle.theorems.specs.Lists.{End, Call, sessionAt, justMade, outcomeOf, after}
 
 -- no SSRC twice

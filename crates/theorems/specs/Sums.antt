@@ -4,18 +4,17 @@ use mathlib.Core.List.{List, [], _∷_, map}
 use Prim.Native.Nat.{ℕ, _-_, _^_}
 use lib.IntN.{ℤ, pos, negsuc}
 use Rattle.bits.specs.Pick.{pick}
-use Rattle.rtp.specs.Elements.{wholeOf}
-use Rattle.rtp.specs.Mask.{among, maskOf}
+use Rattle.bits.specs.Lists.{Each}
+use Rattle.rtp_elements.specs.Elements.{wholeOf}
+use Rattle.rtp_elements.specs.Mask.{among, maskOf}
 use Rattle.replay.specs.declared.answer.Told.{Told}
 use Rattle.replay.specs.declared.answer.Judged.the-variants.{Index}
-use Rattle.replay.specs.declared.receive.Received.{Received}
+use Rattle.replay.specs.Receive.{Received, receiveOf}
 use Rattle.replay.specs.Answers.{toldOf}
 use Rattle.replay.specs.Guess.{guessOf}
-use Rattle.replay.specs.Receive.{receiveOf}
 use Rattle.replay.specs.Send.{sentOf, sendOf}
 use Rattle.replay.specs.State.{freshOf, acceptOf}
 use Rattle.replay.specs.Window.{blocks, width}
-use Rattle.theorems.specs.Lists.{Each}
 
 -- ---- a row
 

@@ -1,7 +1,8 @@
-// Demands 1 to 3 over lists of calls, what holds of every session, and document 01's sums.
+// Demands 1 to 3 over lists of calls, on sessions and on the memory that holds them; what holds of every session; and document 01's sums.
 ghost use Rattle.theorems.specs.Answers.{OneAnswerEach};
 ghost use Rattle.theorems.specs.Arrivals.{ArrivalsFollowTheLedger};
 ghost use Rattle.theorems.specs.Example.{PremisesAreMet, HollowProgramsDiffer};
+ghost use Rattle.theorems.specs.Memories.{AnswersAsSessions, ArrivalsInMemory};
 ghost use Rattle.theorems.specs.Places.{NeighboursChangePlaces};
 ghost use Rattle.theorems.specs.Sent.{SentUnderItsIndex};
 ghost use Rattle.theorems.specs.Sums.{SumsHold};
@@ -40,6 +41,16 @@ pub fn arrivals_follow_the_ledger()
 // Demand 3: two neighbouring packet calls for different streams can change places.
 pub fn neighbours_change_places()
     ensures { λ _. ⌜ NeighboursChangePlaces ⌝ }
+{}
+
+// Calls on memory are answered as calls on the sessions that it holds, over whole lists.
+pub fn memories_answer_as_sessions()
+    ensures { λ _. ⌜ AnswersAsSessions ⌝ }
+{}
+
+// Demand 3 for the exported calls.
+pub fn arrivals_follow_the_ledger_in_memory()
+    ensures { λ _. ⌜ ArrivalsInMemory ⌝ }
 {}
 
 // Document 01's sums, G1 to G7, S1, S2 and M1 to M4.

@@ -3,8 +3,8 @@ use mathlib.Core.Path.{_≡_, ap₂, _∙_}
 use lib.ListN.{length, getD}
 use borrow.Author.Needs.{needs}
 use Rattle.bits.proofs.Lists.{length-mapped}
-use Rattle.aes.specs.Cipher.{cipherOf}
-use Rattle.aes.proofs.Beginning.{ends}
+use Rattle.aes_tables.specs.Cipher.{cipherOf}
+use Rattle.aes_begin.proofs.Beginning.{ends}
 use Rattle.aes.proofs.cipher.aes128.Statement.{statement}
 use Rattle.aes.proofs.cipher.aes128.Tie as tie
 

@@ -3,8 +3,8 @@ use mathlib.Core.Path.{refl}
 use mathlib.Core.List.{[]}
 use lib.ListN.{getD}
 use borrow.Author.Needs.{needs}
-use Rattle.aes.specs.Cipher.{addRoundKey}
-use Rattle.aes.specs.Steps.{endingOf}
+use Rattle.aes_tables.specs.Cipher.{addRoundKey}
+use Rattle.aes_begin.specs.Steps.{endingOf}
 use Rattle.aes.proofs.Rounds.{next, ended}
 use Rattle.aes.proofs.cipher.encrypt.Statement.{statement}
 use Rattle.aes.proofs.cipher.encrypt.Tie as tie

@@ -7,9 +7,9 @@ use mir.Val.{Fits}
 use borrow.Author.Needs.{needs}
 use lib.ListN.{length, getD}
 use Rattle.bits.proofs.Bytes.{are-bytes}
-use Rattle.aes.specs.Keys.{roundKeysOf}
+use Rattle.aes_tables.specs.Keys.{roundKeysOf}
 use Rattle.aes_cm.proofs.Streams.{portion-is}
-use Rattle.aes_cm.proofs.Walks.{fresh}
+use Rattle.aes_keystream.proofs.Walks.{fresh}
 use Rattle.aes_cm.proofs.portion.portion_by.Statement.{statement}
 use Rattle.aes_cm.proofs.portion.portion_by.Tie as tie
 

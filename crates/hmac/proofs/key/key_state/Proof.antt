@@ -1,7 +1,7 @@
 -- `hmac::key::key_state` meets its contract: one block from the start.
 use mathlib.Core.Path.{ap₂, _∙_}
 use borrow.Author.Needs.{needs}
-use Rattle.sha1.specs.Hash.{blocksOf}
+use Rattle.sha1_compress.specs.Hash.{blocksOf}
 use Rattle.hmac.specs.Steps.{stateOf}
 use Rattle.hmac.proofs.key.key_state.Statement.{statement}
 use Rattle.hmac.proofs.key.key_state.Tie as tie

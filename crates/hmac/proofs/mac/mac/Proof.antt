@@ -3,8 +3,8 @@ use mathlib.Core.Path.{ap, sym, _∙_}
 use mathlib.Core.List.{List}
 use Prim.Native.Nat.{ℕ}
 use borrow.Author.Needs.{needs}
-use Rattle.sha1.specs.Hash.{compressOf, digestOf}
-use Rattle.sha1.specs.Steps.{hashFrom}
+use Rattle.sha1_compress.specs.Hash.{compressOf, digestOf}
+use Rattle.sha1_compress.specs.Steps.{hashFrom}
 use Rattle.hmac.specs.Steps.{macOf}
 use Rattle.hmac.proofs.Macs.{last-hash}
 use Rattle.hmac.proofs.mac.mac.Statement.{statement}

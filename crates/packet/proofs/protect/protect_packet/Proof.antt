@@ -1,6 +1,6 @@
 -- `packet::protect::protect_packet` meets its contract.
 use native.Mathlib.Omega.{arith}
-use Rattle.rtp.specs.Mask.{listedIn}
+use Rattle.rtp_elements.specs.Mask.{listedIn}
 use Rattle.packet.proofs.Sending.{body-small, sent}
 use borrow.Author.Needs.{needs}
 use Rattle.packet.proofs.protect.protect_packet.Statement.{statement}

@@ -5,7 +5,7 @@ use native.Mathlib.Omega.{arith}
 use borrow.Author.Needs.{needs}
 use lib.ListN.{length, take, length-set}
 use lib.Seq.{take-all}
-use Rattle.packet.proofs.Copying.{copied-next}
+use Rattle.bits.proofs.Copying.{copied-next}
 use Rattle.packet.proofs.protect.put_tag.Statement.{statement}
 use Rattle.packet.proofs.protect.put_tag.Tie as tie
 

@@ -3,7 +3,7 @@ use mathlib.Core.Path.{_≡_, refl, sym, _∙_}
 use Prim.Native.Nat.{_-_}
 use native.Mathlib.Omega.{arith}
 use borrow.Author.Tests.{not-true, not-false}
-use Rattle.rtp.specs.Mask.{listedIn}
+use Rattle.rtp_elements.specs.Mask.{listedIn}
 use Rattle.packet.proofs.Arriving.{long, read, fits, small, elements, tag-fits, restored}
 use borrow.Author.Needs.{needs}
 use Rattle.packet.proofs.protect.unprotect_packet.Statement.{statement}

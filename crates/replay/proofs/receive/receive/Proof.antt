@@ -1,62 +1,77 @@
--- `replay::receive::receive` meets its contract: a first packet, and a later one at its guess.
+-- `replay::receive::receive` meets its contract.
 use mathlib.Core.Path.{sym, _∙_}
 use native.Mathlib.Omega.{arith}
 use mir.Syntax.{w32}
 use mir.ValLaws.{toZ-ofZ}
-use borrow.Author.Tests.{not-true, not-false}
-use borrow.Author.Needs.{needs}
-use Rattle.replay.specs.Window.{blocks, width}
+use lib.ListN.{getD}
 use Rattle.replay.proofs.Guesses.{guess-is, distance-is, up-small, down-small}
-use Rattle.replay.proofs.Judging.{first-received, later-received}
+use Rattle.replay.proofs.Words.{rest, first-arrival, later-arrival}
+use borrow.Author.Needs.{needs}
 use Rattle.replay.proofs.receive.receive.Statement.{statement}
 use Rattle.replay.proofs.receive.receive.Tie as tie
+
+shared-slice-read-if1 : tie.Need-shared-slice-read-if1
+shared-slice-read-if1 c = search needs
 
 first-index-requires : tie.Need-first-index-requires
 first-index-requires c κs = search needs
 
-after-requires : tie.Need-after-requires
-after-requires c κs = search needs
-
 returns : tie.Need-returns
 returns c =
-    let a = c .before .before .before .before .args in
-    rw (c .after .ensures, c .before .first-index .ensures)
-    (sym (first-received blocks width (a .state) (a .rollover) (a .sequence) (not-true (a .state .started) (c .before .before .if1 .taken)) (omega arith)))
+    let s = c .before .before .before .before in
+    let a = s .args in
+    rw (c .first-index .ensures) (sym (first-arrival (a .track .now) (a .width) (a .rollover) (a .sequence) (c .before .if1 .taken) (omega arith)))
+
+shared-slice-read-highest : tie.Need-shared-slice-read-highest
+shared-slice-read-highest c = search needs
 
 guess-requires : tie.Need-guess-requires
 guess-requires c κs = search needs
 
+sub-judge-offset : tie.Need-sub-judge-offset
+sub-judge-offset c = search needs
+
+part-judge-offset-start : tie.Need-part-judge-offset-start
+part-judge-offset-start c = search needs
+
+part-judge-offset-end : tie.Need-part-judge-offset-end
+part-judge-offset-end c = search needs
+
 judge-offset-requires : tie.Need-judge-offset-requires
 judge-offset-requires c κs = search needs
 
-after-requires-2 : tie.Need-after-requires-2
-after-requires-2 c κs = search needs
-
 difference-requires : tie.Need-difference-requires
 difference-requires c κs =
-    let a = c .before .before .before .before .before .args in
-    rw (c .before .before .guess .ensures) (up-small (a .state .highest) (a .sequence) (omega arith), down-small (a .state .highest) (a .sequence) (omega arith))
+    let g = c .before .before in
+    let s = g .before .before .before .before .before in
+    rw (g .guess .ensures) (up-small (getD (s .args .track .now) 1 0) (s .args .sequence) (omega arith), down-small (getD (s .args .track .now) 1 0) (s .args .sequence) (omega arith))
 
 returns-2 : tie.Need-returns-2
 returns-2 c =
     let g = c .before .before .before in
-    let a = g .before .before .before .args in
+    let e = g .before .before in
+    let s = e .before .before .before in
+    let a = s .args in
+    let l = a .track .now in
     let d = toZ-ofZ w32 _ (record { sfits = c .difference .ok }) ∙ c .difference .ensures in
-    rw (d, c .before .after2 .ensures, c .before .before .judge-offset .ensures, g .guess .ensures)
+    rw (d, c .before .judge-offset .ensures, rest 2 l, g .guess .ensures)
     (sym
-    (later-received blocks width (a .state) (a .rollover) (a .sequence) _ _ (not-false (a .state .started) (g .before .if1 .left))
-    (guess-is (a .state .highest) (a .sequence) (omega arith))
-    (distance-is (a .state .highest) (a .sequence) (omega arith))))
+    (later-arrival l (a .width) (a .rollover) (a .sequence) _ _ (e .if1 .left)
+    (guess-is (getD l 1 0) (a .sequence) (omega arith))
+    (distance-is (getD l 1 0) (a .sequence) (omega arith))))
 
 pub receive-spec : {M : Type 1} → statement M
 receive-spec =
     tie.close
     (tie.spec
+    shared-slice-read-if1
     first-index-requires
-    after-requires
     returns
+    shared-slice-read-highest
     guess-requires
+    sub-judge-offset
+    part-judge-offset-start
+    part-judge-offset-end
     judge-offset-requires
-    after-requires-2
     difference-requires
     returns-2)

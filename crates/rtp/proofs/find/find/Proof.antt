@@ -3,7 +3,7 @@ use mathlib.Core.Path.{refl, sym, ap, _∙_}
 use native.Mathlib.Nat.{add-sub-cancel-left}
 use native.Mathlib.Omega.{arith}
 use denote.Ref.{now}
-use Rattle.rtp.specs.Header.{headerNumber}
+use Rattle.rtp_header.specs.Header.{headerNumber}
 use Rattle.rtp.proofs.Handing.{refused-part, not-read, read, handed, inside-packet}
 use borrow.Author.Needs.{needs}
 use Rattle.rtp.proofs.find.find.Statement.{statement}

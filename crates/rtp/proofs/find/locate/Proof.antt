@@ -6,7 +6,7 @@ use borrow.Author.Needs.{needs}
 use lib.ListN.{length}
 use Rattle.rtp.specs.Finding.{locatedOf}
 use Rattle.rtp.specs.Steps.{Inside}
-use Rattle.rtp.proofs.Stepping.{next-at, next-absent, next-over}
+use Rattle.rtp_elements.proofs.Stepping.{next-at, next-absent, next-over}
 use Rattle.rtp.proofs.Locating.{kept-inside, ahead, ahead-start, ahead-next, ahead-over, ahead-past}
 use Rattle.rtp.proofs.find.locate.Statement.{statement}
 use Rattle.rtp.proofs.find.locate.Tie as tie

@@ -5,8 +5,8 @@ use native.Mathlib.Nat.{add-sub-cancel-left}
 use native.Mathlib.Omega.{arith}
 use borrow.Author.Needs.{needs}
 use lib.ListN.{length, getD}
-use Rattle.rtp.specs.Mask.{listedIn}
-use Rattle.rtp.proofs.Stepping.{next-at}
+use Rattle.rtp_elements.specs.Mask.{listedIn}
+use Rattle.rtp_elements.proofs.Stepping.{next-at}
 use Rattle.rtp.proofs.Masking.{Masking, masking-start, masking-end, masking-stop, masking-over, masking-next, lent-back, lengths-agree}
 use Rattle.rtp.proofs.mask.mask.Statement.{statement}
 use Rattle.rtp.proofs.mask.mask.Tie as tie

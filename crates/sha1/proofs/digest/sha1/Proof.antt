@@ -2,8 +2,8 @@
 use mathlib.Core.Path.{ap₂, _∙_}
 use denote.Ref.{now}
 use borrow.Author.Needs.{needs}
-use Rattle.sha1.specs.Steps.{hashFrom}
-use Rattle.sha1.proofs.Padding.{tail-none, sha1-is}
+use Rattle.sha1_compress.specs.Steps.{hashFrom}
+use Rattle.sha1_compress.proofs.Padding.{tail-none, sha1-is}
 use Rattle.sha1.proofs.digest.sha1.Statement.{statement}
 use Rattle.sha1.proofs.digest.sha1.Tie as tie
 

@@ -1,31 +1,12 @@
 -- `srtp::unprotect::unprotect` meets its contract.
-use mathlib.Core.Path.{_∙_}
-use Rattle.srtp.proofs.Calls.{receiving-read, unprotect-length, unprotect-unread, unprotect-nowhere, unprotect-stepped}
-use Rattle.srtp.proofs.Streams.{judged-long}
+use Rattle.policies.specs.declared.policy.Way.the-variants.{Receiving}
+use Rattle.srtp.proofs.Fronts.{refused-gives, stepped-gives}
 use borrow.Author.Needs.{needs}
 use Rattle.srtp.proofs.unprotect.unprotect.Statement.{statement}
 use Rattle.srtp.proofs.unprotect.unprotect.Tie as tie
 
-refused-requires : tie.Need-refused-requires
-refused-requires c κs = search needs
-
-returns : tie.Need-returns
-returns c =
-    let s = c .before .before .before in
-    let w = unprotect-length (s .args .t1) (s .args .buf .now) (s .args .n) (c .before .if1 .taken) in
-    (c .refused .ensures ∙ w .done, w .buffer)
-
-sub-judge : tie.Need-sub-judge
-sub-judge c = search needs
-
-part-judge-start : tie.Need-part-judge-start
-part-judge-start c = search needs
-
-part-judge-end : tie.Need-part-judge-end
-part-judge-end c = search needs
-
-judge-requires : tie.Need-judge-requires
-judge-requires c κs = search needs
+open-requires : tie.Need-open-requires
+open-requires c κs = search needs
 
 enum-known-header : tie.Need-enum-known-header
 enum-known-header c = search needs
@@ -33,117 +14,53 @@ enum-known-header c = search needs
 enum-told : tie.Need-enum-told
 enum-told c = search needs
 
-unread-requires : tie.Need-unread-requires
-unread-requires c κs = search needs
+unopened-requires : tie.Need-unopened-requires
+unopened-requires c κs = search needs
 
 same-length : tie.Need-same-length
 same-length c = search needs
 
-returns-2 : tie.Need-returns-2
-returns-2 c =
-    let q = c .before .before .before in
-    let s = q .before .before .before .before .before .before in
-    let w = unprotect-unread (s .args .t1) (s .args .buf .now) (s .args .n) (q .before .before .before .before .if1 .left) _ (q .judge .ensures) _ (c .before .enum-told .given .1) in
-    (c .unread .ensures ∙ w .done, w .buffer)
-
-sub-ssrc : tie.Need-sub-ssrc
-sub-ssrc c = search needs
-
-part-ssrc-start : tie.Need-part-ssrc-start
-part-ssrc-start c = search needs
-
-part-ssrc-end : tie.Need-part-ssrc-end
-part-ssrc-end c = search needs
-
-ssrc-requires : tie.Need-ssrc-requires
-ssrc-requires c κs =
-    let k = c .before .before in
-    let q = k .before .before .before in
-    let s = q .before .before .before .before .before .before in
-    judged-long _ _ (s .args .buf .now) (s .args .n) _ (q .before .before .before .before .if1 .left) (receiving-read (s .args .t1) (s .args .buf .now) (s .args .n) (q .before .before .before .before .if1 .left) _ (q .judge .ensures) _ (k .before .header .given .1))
-
-place-of-requires : tie.Need-place-of-requires
-place-of-requires c κs = search needs
-
-enum-known-i : tie.Need-enum-known-i
-enum-known-i c = search needs
-
-enum-told-2 : tie.Need-enum-told-2
-enum-told-2 c = search needs
-
-refused-requires-2 : tie.Need-refused-requires-2
-refused-requires-2 c κs = search needs
-
 same-length-2 : tie.Need-same-length-2
 same-length-2 c = search needs
 
-returns-3 : tie.Need-returns-3
-returns-3 c =
-    let o = c .before .before .before in
-    let k = o .before .before .before .before in
-    let q = k .before .before .before in
-    let s = q .before .before .before .before .before .before in
-    let w = unprotect-nowhere (s .args .t1) (s .args .buf .now) (s .args .n) (q .before .before .before .before .if1 .left) _ (q .judge .ensures) _ (k .before .header .given .1) _ (o .before .ssrc .ensures) _ (o .place-of .ensures .0) (c .before .enum-told2 .given .1) in
-    (c .refused2 .ensures ∙ w .done, w .buffer)
-
-mul-r : tie.Need-mul-r
-mul-r c = let i = rw (c .before .i .given .1) at (c .before .before .before .place-of .ensures .1) in search (needs, i)
-
-element-copy-out-r : tie.Need-element-copy-out-r
-element-copy-out-r c = let i = rw (c .before .i .given .1) at (c .before .before .before .place-of .ensures .1) in search (needs, i)
+returns : tie.Need-returns
+returns c =
+    let e = c .before in
+    let o = e .before .before in
+    let s = o .before .before .before .before .before in
+    rw (c .unopened .ensures) (refused-gives (s .args .session .now) (s .args .buf .now) (s .args .n) Receiving _ (o .open .ensures .0) _ (e .enum-told .given .1))
 
 unprotect-stream-requires : tie.Need-unprotect-stream-requires
 unprotect-stream-requires c κs =
-    let o = c .before .before .before .before .before .before .before .before in
-    let k = o .before .before .before .before in
-    let q = k .before .before .before in
-    let s = q .before .before .before .before .before .before in
-    (q .before .before .before .before .if1 .left, receiving-read (s .args .t1) (s .args .buf .now) (s .args .n) (q .before .before .before .before .if1 .left) _ (q .judge .ensures) _ (k .before .header .given .1))
-
-settled-requires : tie.Need-settled-requires
-settled-requires c κs = rw (c .before .before .before .before .before .before .before .before .before .i .given .1) at (c .before .before .before .before .before .before .before .before .before .before .before .place-of .ensures .1)
+    let h = c .before .before .before in
+    rw (h .header .given .1) at (h .before .before .open .ensures .1)
 
 same-length-3 : tie.Need-same-length-3
 same-length-3 c = search needs
 
-returns-4 : tie.Need-returns-4
-returns-4 c =
-    let p = c .before .before .before in
-    let o = c .before .before .before .before .before .before .before .before .before .before .before .before in
-    let k = o .before .before .before .before in
-    let q = k .before .before .before in
-    let s = q .before .before .before .before .before .before in
-    let w = unprotect-stepped (s .args .t1) (s .args .buf .now) (s .args .n) (q .before .before .before .before .if1 .left) _ (q .judge .ensures) _ (k .before .header .given .1) _ (o .before .ssrc .ensures) _ (o .place-of .ensures .0) _ (c .before .before .before .before .before .before .before .before .before .before .i .given .1) _ (p .unprotect-stream .ensures .0) _ (p .unprotect-stream .ensures .1) in
-    (c .settled .ensures ∙ w .done, w .buffer)
+same-length-4 : tie.Need-same-length-4
+same-length-4 c = search needs
+
+returns-2 : tie.Need-returns-2
+returns-2 c =
+    let y = c .before .before .before .before in
+    let h = y .before .before .before .before in
+    let o = h .before .before in
+    let s = o .before .before .before .before .before in
+    stepped-gives (s .args .session .now) (s .args .buf .now) (s .args .n) Receiving _ (o .open .ensures .0) _ (h .header .given .1) _ _ _ (y .unprotect-stream .ensures)
 
 pub unprotect-spec : {M : Type 1} → statement M
 unprotect-spec =
     tie.close
     (tie.spec
-    refused-requires
-    returns
-    sub-judge
-    part-judge-start
-    part-judge-end
-    judge-requires
+    open-requires
     enum-known-header
     enum-told
-    unread-requires
+    unopened-requires
     same-length
-    returns-2
-    sub-ssrc
-    part-ssrc-start
-    part-ssrc-end
-    ssrc-requires
-    place-of-requires
-    enum-known-i
-    enum-told-2
-    refused-requires-2
     same-length-2
-    returns-3
-    mul-r
-    element-copy-out-r
+    returns
     unprotect-stream-requires
-    settled-requires
     same-length-3
-    returns-4)
+    same-length-4
+    returns-2)

@@ -1,7 +1,7 @@
 -- `theorems::claims::sums_hold`: each row computes.
 use mathlib.Core.Path.{refl}
-use Rattle.rtp.specs.Elements.{wholeOf}
-use Rattle.rtp.specs.Mask.{maskOf}
+use Rattle.rtp_elements.specs.Elements.{wholeOf}
+use Rattle.rtp_elements.specs.Mask.{maskOf}
 use Rattle.replay.specs.Guess.{guessOf, distanceOf}
 use Rattle.replay.specs.Receive.{receiveOf}
 use Rattle.replay.specs.Send.{stepOf, nextOf, sendOf}

@@ -1,5 +1,0 @@
-pub mod Field
-pub mod Cipher
-pub mod Keys
-pub mod Claims
-pub mod Steps

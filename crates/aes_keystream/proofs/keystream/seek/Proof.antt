@@ -1,0 +1,16 @@
+-- `aes_keystream::keystream::seek` meets its contract.
+use borrow.Author.Needs.{needs}
+use Rattle.aes_keystream.proofs.keystream.seek.Statement.{statement}
+use Rattle.aes_keystream.proofs.keystream.seek.Tie as tie
+
+returns : tie.Need-returns
+returns c = (search needs, λ iv b. record { block = λ u. absurd (u (c .if1 .taken)) })
+
+keystream-block-requires : tie.Need-keystream-block-requires
+keystream-block-requires c κs = search needs
+
+returns-2 : tie.Need-returns-2
+returns-2 c = (search needs, λ iv b. record { block = λ u. c .keystream-block .ensures iv b })
+
+pub seek-spec : {M : Type 1} → statement M
+seek-spec = tie.close (tie.spec returns keystream-block-requires returns-2)

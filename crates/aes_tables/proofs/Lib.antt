@@ -1,0 +1,3 @@
+pub mod Words
+pub mod Sbox
+pub mod RoundTable

@@ -1,0 +1,40 @@
+-- `cryptex::tag::write_tag` meets its contract.
+use mathlib.Core.Path.{refl}
+use Rattle.policies.specs.Cryptex.{written16}
+use borrow.Author.Needs.{needs}
+use Rattle.cryptex.proofs.tag.write_tag.Statement.{statement}
+use Rattle.cryptex.proofs.tag.write_tag.Tie as tie
+
+cast-packet : tie.Need-cast-packet
+cast-packet c = search needs
+
+slice-write-packet : tie.Need-slice-write-packet
+slice-write-packet c = search needs
+
+cast-packet-2 : tie.Need-cast-packet-2
+cast-packet-2 c = search needs
+
+add-packet : tie.Need-add-packet
+add-packet c = search needs
+
+slice-write-packet-2 : tie.Need-slice-write-packet-2
+slice-write-packet-2 c = search needs
+
+same-length : tie.Need-same-length
+same-length c = search needs
+
+returns : tie.Need-returns
+unfolding written16
+returns c = refl
+
+pub write-tag-spec : {M : Type 1} → statement M
+write-tag-spec =
+    tie.close
+    (tie.spec
+    cast-packet
+    slice-write-packet
+    cast-packet-2
+    add-packet
+    slice-write-packet-2
+    same-length
+    returns)

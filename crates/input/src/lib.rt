@@ -1,0 +1,3 @@
+// The input of a program, cut into lines.
+// Follows docs/CALLS.md, "A line".
+pub mod lines;

@@ -1,0 +1,4 @@
+pub mod Guesses
+pub mod Ring
+pub mod Ledger
+pub mod Indices

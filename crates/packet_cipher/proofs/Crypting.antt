@@ -1,0 +1,136 @@
+-- The cipher leaves the fixed header and the extension header alone, and undoes itself.
+use mathlib.Core.Path.{_≡_, refl, ap, _∙_}
+use mathlib.Core.Bool.{Bool, true, false, _&&_}
+use mathlib.Core.Logic.{_⊎_, inl, inr}
+use mathlib.Core.List.{List}
+use Prim.Native.Nat.{ℕ, _+_, _-_, _≤_, _<_, min}
+use native.Mathlib.Omega.{arith}
+use borrow.Author.Tests.{lt-ltb, le-ltb}
+use lib.Dec.{ltb}
+use lib.ListN.{length, getD, take, drop, length-take}
+use Rattle.bits.specs.Pick.{pick}
+use Rattle.bits.specs.Xor.{xorPad}
+use Rattle.bits.proofs.Xor.{length-pad, pad-twice, pad-ext, pad-stays}
+use Rattle.aes_cm.specs.Portion.{portionPad}
+use Rattle.rtp_header.specs.declared.header.Layout.{Layout}
+use Rattle.rtp_elements.specs.Elements.{wholeOf}
+use Rattle.rtp_header.specs.Header.{layoutOf, blockOf}
+use Rattle.rtp_elements.specs.Mask.{maskOf, maskedOf, maskedPad}
+use Rattle.rtp_claims.proofs.Alike.{masked-reads-alike}
+use Rattle.policies.specs.declared.policy.Policy.{Policy}
+use Rattle.policies.specs.declared.policy.Policy.the-variants.{Plain, Cryptex, CryptexRequired, Mask}
+use Rattle.packet_cipher.specs.Cipher.{portionOf, portionPadOf, blockPadOf, padOf, cryptedOf}
+use Rattle.policies.specs.Cryptex.{isCryptexTag, isCryptex}
+use Rattle.policies.specs.Policies.{usesCryptex, usesMask}
+use Rattle.policies.proofs.Layouts.{apart, Sound, sound, layout-same}
+use Rattle.packet_cipher.proofs.Pads.{take-pad, drop-pad}
+
+pub and-left : (a b : Bool) → (a && b) ≡ true → a ≡ true
+and-left true b e = refl
+and-left false b e = apart cc
+
+pub and-right : (a b : Bool) → (a && b) ≡ true → b ≡ true
+and-right true b e = e
+and-right false b e = apart cc
+
+pub cryptex-x : (policy : Policy) (h : Layout) → isCryptex policy h ≡ true → h .x ≡ true
+cryptex-x policy h e = and-left (h .x) (isCryptexTag (h .tag)) (and-right (usesCryptex policy) (h .x && isCryptexTag (h .tag)) e)
+
+-- ---- places that no key touches
+
+portion-quiet : (h : Layout) → Sound h → (c : Bool) → (c ≡ true → h .x ≡ true) → (stream : ℕ → ℕ) (i : ℕ) → i < h .block → (i < 12) ⊎ (h .extension ≤ i)
+    → portionPadOf (portionOf c h) stream i ≡ 0
+unfolding portionPad
+portion-quiet h s true x stream i b (inl l) = simp (lt-ltb i (h .contributors) (omega (arith, s .contributors)))
+portion-quiet h s true x stream i b (inr g) =
+    simp (le-ltb i (h .contributors) (omega (arith, s .contributors, s .count)), le-ltb i (h .extension) g, lt-ltb i (h .block) b)
+portion-quiet h s false x stream i b q = simp (lt-ltb i (h .payload) (omega (arith, s .payload)))
+
+pick-same : {A : Type 0} (t : Bool) (a b c : A) → a ≡ c → b ≡ c → pick t a b ≡ c
+pick-same true a b c e f = e
+pick-same false a b c e f = f
+
+module _ (policy : Policy) (listed : ℕ → Bool) (stream header-stream : ℕ → ℕ) where
+  pad-quiet : (p : List ℕ) (i : ℕ) → i < layoutOf p .block → (i < 12) ⊎ (layoutOf p .extension ≤ i) → padOf policy listed stream header-stream p i ≡ 0
+  unfolding padOf
+  pad-quiet p i b u =
+      pick-same (usesMask policy && ltb i (layoutOf p .payload)) (blockPadOf listed header-stream p i)
+      (portionPadOf (portionOf (isCryptex policy (layoutOf p)) (layoutOf p)) stream i) 0
+      (simp (lt-ltb i (layoutOf p .block) b))
+      (portion-quiet (layoutOf p) (sound p) (isCryptex policy (layoutOf p)) (cryptex-x policy (layoutOf p)) stream i b u)
+
+  pub crypted-stays : (p : List ℕ) (i : ℕ) → i < layoutOf p .block → (i < 12) ⊎ (layoutOf p .extension ≤ i)
+      → getD (cryptedOf policy listed stream header-stream p) i 0 ≡ getD p i 0
+  unfolding cryptedOf
+  crypted-stays p i b u = pad-stays (padOf policy listed stream header-stream p) p i (pad-quiet p i b u)
+
+  pub crypted-layout : (p : List ℕ) → layoutOf (cryptedOf policy listed stream header-stream p) ≡ layoutOf p
+  crypted-layout p =
+      let s = sound p in
+      layout-same p (cryptedOf policy listed stream header-stream p) (crypted-stays p 0 (omega (arith, s .count, s .block)) (inl (omega arith)))
+      (λ x i a b. crypted-stays p i (omega (arith, s .four x)) (inr a))
+
+  pub crypted-length : (p : List ℕ) → length (cryptedOf policy listed stream header-stream p) ≡ length p
+  unfolding cryptedOf
+  crypted-length p = length-pad (padOf policy listed stream header-stream p) p
+
+  -- a part of the encrypted packet
+  part-crypted : (a k : ℕ) (p : List ℕ)
+      → take k (drop a (cryptedOf policy listed stream header-stream p)) ≡ xorPad (λ i. padOf policy listed stream header-stream p (a + i)) (take k (drop a p))
+  unfolding cryptedOf
+  part-crypted a k p =
+      ap (take k) (drop-pad a (padOf policy listed stream header-stream p) p)
+      ∙ take-pad k (λ i. padOf policy listed stream header-stream p (a + i)) (drop a p)
+
+-- ---- the block under the mask
+
+module _ (listed : ℕ → Bool) (stream header-stream : ℕ → ℕ) (p : List ℕ) where
+  mask : List ℕ
+  mask = maskOf listed (layoutOf p .tag) (blockOf (layoutOf p) p)
+
+  inside : (i : ℕ) → i < length (blockOf (layoutOf p) p) → padOf Mask listed stream header-stream p (layoutOf p .block + i) ≡ maskedPad mask header-stream i
+  unfolding padOf mask
+  inside i b =
+      let m : length (blockOf (layoutOf p) p) ≡ min (layoutOf p .payload - layoutOf p .block) (length (drop (layoutOf p .block) p))
+      = length-take (layoutOf p .payload - layoutOf p .block) (drop (layoutOf p .block) p) in
+      let e : layoutOf p .block + i - layoutOf p .block ≡ i = omega arith in
+      simp (lt-ltb (layoutOf p .block + i) (layoutOf p .payload) (omega arith), le-ltb (layoutOf p .block + i) (layoutOf p .block) (omega arith), e)
+
+  pub crypted-block : blockOf (layoutOf p) (cryptedOf Mask listed stream header-stream p) ≡ maskedOf listed (layoutOf p .tag) header-stream (blockOf (layoutOf p) p)
+  unfolding maskedOf mask
+  crypted-block =
+      part-crypted Mask listed stream header-stream (layoutOf p .block) (layoutOf p .payload - layoutOf p .block) p
+      ∙ pad-ext (λ i. padOf Mask listed stream header-stream p (layoutOf p .block + i)) (maskedPad mask header-stream) (blockOf (layoutOf p) p) inside
+
+  crypted-mask : maskOf listed (layoutOf p .tag) (blockOf (layoutOf p) (cryptedOf Mask listed stream header-stream p)) ≡ maskOf listed (layoutOf p .tag) (blockOf (layoutOf p) p)
+  crypted-mask = ap (maskOf listed (layoutOf p .tag)) crypted-block ∙ masked-reads-alike .mask listed listed (layoutOf p .tag) header-stream (blockOf (layoutOf p) p)
+
+  crypted-whole : wholeOf (layoutOf p .tag) (blockOf (layoutOf p) (cryptedOf Mask listed stream header-stream p)) ≡ wholeOf (layoutOf p .tag) (blockOf (layoutOf p) p)
+  crypted-whole = ap (wholeOf (layoutOf p .tag)) crypted-block ∙ masked-reads-alike .whole listed (layoutOf p .tag) header-stream (blockOf (layoutOf p) p)
+
+-- ---- undone
+
+-- the pad is the same for the plain packet and the encrypted one
+crypted-pad : (policy : Policy) (listed : ℕ → Bool) (stream header-stream : ℕ → ℕ) (p : List ℕ) (i : ℕ)
+    → padOf policy listed stream header-stream (cryptedOf policy listed stream header-stream p) i ≡ padOf policy listed stream header-stream p i
+unfolding padOf
+crypted-pad Plain listed stream header-stream p i = rw (crypted-layout Plain listed stream header-stream p)
+crypted-pad Cryptex listed stream header-stream p i = rw (crypted-layout Cryptex listed stream header-stream p)
+crypted-pad CryptexRequired listed stream header-stream p i = rw (crypted-layout CryptexRequired listed stream header-stream p)
+crypted-pad Mask listed stream header-stream p i = rw (crypted-layout Mask listed stream header-stream p, crypted-mask listed stream header-stream p)
+
+-- for every list of bytes, whatever its header says
+pub crypted-twice : (policy : Policy) (listed : ℕ → Bool) (stream header-stream : ℕ → ℕ) (p : List ℕ)
+    → cryptedOf policy listed stream header-stream (cryptedOf policy listed stream header-stream p) ≡ p
+unfolding cryptedOf
+crypted-twice policy listed stream header-stream p =
+    pad-ext (padOf policy listed stream header-stream (cryptedOf policy listed stream header-stream p)) (padOf policy listed stream header-stream p)
+    (cryptedOf policy listed stream header-stream p) (λ i b. crypted-pad policy listed stream header-stream p i)
+    ∙ pad-twice (padOf policy listed stream header-stream p) p
+
+pub whole-by : (policy : Policy) (listed : ℕ → Bool) (stream header-stream : ℕ → ℕ) → usesMask policy ≡ true → (p : List ℕ)
+    → wholeOf (layoutOf p .tag) (blockOf (layoutOf p) (cryptedOf policy listed stream header-stream p)) ≡ wholeOf (layoutOf p .tag) (blockOf (layoutOf p) p)
+whole-by Plain listed stream header-stream e p = apart cc
+whole-by Cryptex listed stream header-stream e p = apart cc
+whole-by CryptexRequired listed stream header-stream e p = apart cc
+whole-by Mask listed stream header-stream e p = crypted-whole listed stream header-stream p

@@ -1,0 +1,3 @@
+pub mod Pads
+pub mod Passes
+pub mod Crypting

@@ -1,0 +1,39 @@
+// Packets protected and given back by the public calls.
+use adding::add::add;
+use libc::STDOUT_FILENO;
+use lines::hex::put_line;
+use making::make::make;
+use session::layout::SIZE;
+use srtp::protect::protect;
+use srtp::unprotect::unprotect;
+
+// A session with the ids 1, 3 and 4 and the stream cafebabe.
+fn begin(session: &mut [u64], key: &[u8], salt: &[u8], policy: u64, way: u32) {
+    let ids = [1u8, 3, 4];
+    make(session, key, salt, policy, &ids);
+    add(session, 0xcafebabe, way, 0);
+}
+
+// The first bytes of a buffer; nothing after a refusal.
+fn put_packet(what: &[u8], buf: &[u8], length: usize) {
+    io::write_all(STDOUT_FILENO, what);
+    if length <= buf.len() {
+        put_line(&buf[0..length]);
+    }
+}
+
+// The packet in the buffer, whose last ten bytes are room for the tag, as it is sent; and then the way back.
+pub fn both_ways(name: &[u8], policy: u64, key: &[u8], salt: &[u8], buf: &mut [u8]) {
+    if buf.len() < 10 {
+        return;
+    }
+    let n = buf.len() - 10;
+    let mut session = [0u64; SIZE];
+    begin(&mut session, key, salt, policy, 0);
+    let sent = protect(&mut session, buf, n);
+    put_packet(b"wire ", buf, sent.length);
+    begin(&mut session, key, salt, policy, 1);
+    let got = unprotect(&mut session, buf, sent.length);
+    io::write_all(STDOUT_FILENO, name);
+    put_packet(b" back ", buf, got.length);
+}

@@ -1,0 +1,5 @@
+// The policies, what each uses, and which packets it takes.
+// Follows document 01 ("The library's work", "Numbers given back") and RFC 9335, section 5.
+pub mod judge;
+pub mod policy;
+pub mod uses;

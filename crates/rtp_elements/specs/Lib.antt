@@ -1,0 +1,4 @@
+pub mod Elements
+pub mod Mask
+pub mod Next
+pub mod Numbers

@@ -1,0 +1,201 @@
+-- What memory holds after a call: the session that the call's definition gives back.
+use mathlib.Core.Path.{_≡_, refl, sym, ap, _∙_}
+use mathlib.Core.Bool.{Bool, true, false, not}
+use mathlib.Core.List.{List, [], _∷_}
+use Prim.Native.Nat.{ℕ, suc, _+_, _*_, _^_, _≤_, _<_}
+use native.Mathlib.Omega.{arith}
+use borrow.Author.Tests.{eq-eqb, ne-eqb}
+use lib.ListN.{length, getD, set, take}
+use lib.Seq.{getD-set-same}
+use Rattle.bits.specs.Pick.{pick}
+use Rattle.bits.specs.Refusals.{numberOf}
+use Rattle.bits.specs.declared.refusal.Refusal.the-variants as refusal
+use Rattle.bits.proofs.Refusals.{above-zero}
+use Rattle.memory.specs.Parts.{withPart, placeIn, cut}
+use Rattle.memory.specs.Words.{word}
+use Rattle.memory.proofs.Parts.{with-length, field-word, cut-before}
+use Rattle.rtp_header.specs.Header.{ssrcOf}
+use Rattle.policies.specs.declared.policy.Way.{Way}
+use Rattle.policies.specs.declared.policy.Way.the-variants.{Sending, Receiving}
+use Rattle.policies.proofs.Layouts.{apart}
+use Rattle.replay.specs.State.{ReplayState}
+use Rattle.replay.specs.Track.{Blocks, stateWords}
+use Rattle.replay.specs.Window.{blocks}
+use Rattle.replay.proofs.Tracks.{fresh-blocks, state-length}
+use Rattle.session.specs.declared.place.Place.{Place}
+use Rattle.session.specs.declared.place.Place.the-variants.{At, Nowhere}
+use Rattle.session.specs.Session.{Made, Record, Session}
+use Rattle.session.specs.Adding.{notAdded, addOf}
+use Rattle.session.specs.Packets.{listedBy, Effect, refuse, give, protectEffect, unprotectEffect, settled, protectOf, unprotectOf}
+use Rattle.session.specs.Records.{isFor, recordFor, withReplay, storeFor, hasSsrc, isFull, placed, freshRecord}
+use Rattle.session.specs.Places.{noRecord, placeFrom, freeFrom}
+use Rattle.session.specs.Calls.{Left, withoutBuffer, withReplayAt, withRecordAt, placedAt, addedIn, settledIn, protectCall, unprotectCall}
+use Rattle.session.specs.Memory.{number, recordLayout, theReplay, each, recordWords, setupLayout, theMark, isMark, setupFrom, size, recordPlace, recordsIn, setupAt, decode}
+use Rattle.session.specs.RoundTrip.{RecordFits}
+use Rattle.session.proofs.Places.{found-here, free-here, full}
+use Rattle.session.proofs.Memory.{made, not-made, unmade-nowhere}
+use Rattle.session.proofs.Records.{record-kept, record-length, records-length, record-became, replay-became}
+use Rattle.session.proofs.Shapes.{EffectFits, found-fits, protect-fits, unprotect-fits}
+
+-- ---- a record stored
+
+module _ (words : List ℕ) (sized : length words ≡ size) (i : ℕ) (inside : i < 32) (marked : isMark (word words 0) ≡ true) where
+  -- p at place b of record i: what the session was made from stays
+  around : (b : ℕ) (p : List ℕ) → b ≤ each
+      → decode (withPart (recordPlace i + b) p words) ≡ record { setup = decode words .setup; records = recordsIn (withPart (recordPlace i + b) p words) }
+  unfolding setupAt
+  around b p h =
+      let fields = cut-before setupLayout (recordPlace i + b) p words (omega arith) (omega arith) in
+      let first = sym (field-word setupLayout theMark 0 (withPart (recordPlace i + b) p words) (omega arith) (omega arith))
+      ∙ ap (λ (f : List (List ℕ)). number f theMark) fields ∙ field-word setupLayout theMark 0 words (omega arith) (omega arith) in
+      made (withPart (recordPlace i + b) p words) (ap isMark first ∙ marked)
+      ∙ ap (λ (f : List (List ℕ)). record { setup = setupFrom f; records = recordsIn (withPart (recordPlace i + b) p words) }) fields
+      ∙ ap (λ (s : Session). record { setup = s .setup; records = recordsIn (withPart (recordPlace i + b) p words) }) (sym (made words marked))
+
+  pub replay-decodes : (s : ReplayState) → Blocks blocks s
+      → decode (withReplayAt words i s) ≡ record { setup = decode words .setup; records = set (decode words .records) i (withReplay (getD (decode words .records) i noRecord) s) }
+  replay-decodes s f =
+      around (placeIn recordLayout theReplay) (stateWords s) (omega arith)
+      ∙ ap (λ (l : List Record). record { setup = decode words .setup; records = l }) (replay-became words sized i inside s f)
+      ∙ ap (λ (t : Session). record { setup = decode words .setup; records = set (t .records) i (withReplay (getD (t .records) i noRecord) s) }) (sym (made words marked))
+
+  pub record-decodes : (r : Record) → RecordFits r
+      → decode (withRecordAt words i r) ≡ record { setup = decode words .setup; records = set (decode words .records) i r }
+  record-decodes r f =
+      let z : recordPlace i + 0 ≡ recordPlace i = omega arith in
+      ap (λ (a : ℕ). decode (withPart a (recordWords r) words)) (sym z) ∙ around 0 (recordWords r) (omega arith)
+      ∙ ap (λ (a : ℕ). record { setup = decode words .setup; records = recordsIn (withPart a (recordWords r) words) }) z
+      ∙ ap (λ (l : List Record). record { setup = decode words .setup; records = l }) (record-became words sized i inside (recordWords r) (record-length r f))
+      ∙ ap (λ (q : Record). record { setup = decode words .setup; records = set (recordsIn words) i q }) (record-kept r f)
+      ∙ ap (λ (t : Session). record { setup = decode words .setup; records = set (t .records) i r }) (sym (made words marked))
+
+module _ (words : List ℕ) (sized : length words ≡ size) (i : ℕ) (inside : i < 32) where
+  pub replay-long : (s : ReplayState) → Blocks blocks s → length (withReplayAt words i s) ≡ size
+  replay-long s f = with-length (recordPlace i + placeIn recordLayout theReplay) (stateWords s) words (omega (arith, state-length blocks s f)) ∙ sized
+
+  pub record-long : (r : Record) → RecordFits r → length (withRecordAt words i r) ≡ size
+  record-long r f = with-length (recordPlace i) (recordWords r) words (omega (arith, record-length r f)) ∙ sized
+
+-- ---- protect and unprotect
+
+nowhere-stores : (k : ℕ) (l : List Record) (x : ℕ) (w : Way) (t : ReplayState) → placeFrom k l x w ≡ Nowhere → storeFor l x w t ≡ l
+nowhere-stores k [] x w t e = refl
+nowhere-stores k (r ∷ l) x w t e = go (isFor r x w) (nowhere-stores (suc k) l x w t) e
+  where
+    go : (b : Bool) → (placeFrom (suc k) l x w ≡ Nowhere → storeFor l x w t ≡ l) → pick b (At k) (placeFrom (suc k) l x w) ≡ Nowhere
+        → pick b (withReplay r t ∷ l) (r ∷ storeFor l x w t) ≡ r ∷ l
+    go true rec e = apart cc
+    go false rec e = ap (λ (q : List Record). r ∷ q) (rec e)
+
+-- what a call leaves of memory decodes to the session afterwards, and is as long
+pub record Holds (l : Left) (s : Session) : Type 0 where
+  pub session : decode (l .words) ≡ s
+  pub long : length (l .words) ≡ size
+
+module _ (words : List ℕ) (sized : length words ≡ size) (buf : List ℕ) (x : ℕ) (way : Way) where
+  found-in : (i : ℕ) → placeFrom 0 (decode words .records) x way ≡ At i → (isMark (word words 0) ≡ true) × (i < 32)
+  found-in i e = go (isMark (word words 0)) refl
+    where
+      go : (b : Bool) → isMark (word words 0) ≡ b → (isMark (word words 0) ≡ true) × (i < 32)
+      go true m =
+          let n : length (decode words .records) ≡ 32 = ap (λ (s : Session). length (s .records)) (made words m) ∙ records-length words in
+          (m, omega (arith, found-here (decode words .records) x way i e .inside))
+      go false m = apart (let z = unmade-nowhere words m x way in cc)
+
+  settled-holds : (e : Effect) → EffectFits e → Holds (settledIn words x way (settled (decode words) buf x way e)) (settled (decode words) buf x way e .session)
+  settled-holds (refuse r) f = rw (ne-eqb (numberOf r) 0 (λ z. omega (arith, above-zero r))) (record { session = refl; long = sized })
+  settled-holds (give m after t) f = go (placeFrom 0 (decode words .records) x way) refl
+    where
+      go : (p : Place) → placeFrom 0 (decode words .records) x way ≡ p
+          → Holds (settledIn words x way (settled (decode words) buf x way (give m after t))) (settled (decode words) buf x way (give m after t) .session)
+      go Nowhere e =
+          rw e
+          (record {
+            session = sym (ap (λ (l : List Record). record { setup = decode words .setup; records = l }) (nowhere-stores 0 (decode words .records) x way t e));
+            long = sized;
+          })
+      go (At i) e =
+          let h = found-here (decode words .records) x way i e in
+          let q = found-in i e in
+          let r : getD (storeFor (decode words .records) x way t) i noRecord .replay ≡ t =
+          ap (λ (l : List Record). getD l i noRecord .replay) (h .stored t)
+          ∙ ap (λ (k : Record). k .replay) (getD-set-same (decode words .records) i (withReplay (getD (decode words .records) i noRecord) t) noRecord (h .inside)) in
+          rw (e, r)
+          (record {
+            session = replay-decodes words sized i (q .1) (q .0) t f ∙ sym (ap (λ (l : List Record). record { setup = decode words .setup; records = l }) (h .stored t));
+            long = replay-long words sized i (q .1) t f;
+          })
+
+module _ (words : List ℕ) (sized : length words ≡ size) (buf : List ℕ) (n : ℕ) where
+  pub protect-answers : protectCall words buf n .answer ≡ protectOf (decode words) buf n .answer
+  unfolding protectCall
+  protect-answers = rw (eq-eqb (length words) size sized)
+
+  pub protect-holds : Holds (protectCall words buf n) (protectOf (decode words) buf n .session)
+  unfolding protectCall protectOf
+  protect-holds =
+      let s = decode words in
+      rw (eq-eqb (length words) size sized)
+      (settled-holds words sized buf (ssrcOf (take n buf)) Sending
+      (protectEffect (s .setup .keys) (s .setup .policy) (listedBy (s .setup)) buf n (recordFor (s .records) (ssrcOf (take n buf)) Sending))
+      (protect-fits (s .setup .keys) (s .setup .policy) (listedBy (s .setup)) buf n (recordFor (s .records) (ssrcOf (take n buf)) Sending) (found-fits words sized (ssrcOf (take n buf)) Sending)))
+
+  pub unprotect-answers : unprotectCall words buf n .answer ≡ unprotectOf (decode words) buf n .answer
+  unfolding unprotectCall
+  unprotect-answers = rw (eq-eqb (length words) size sized)
+
+  pub unprotect-holds : Holds (unprotectCall words buf n) (unprotectOf (decode words) buf n .session)
+  unfolding unprotectCall unprotectOf
+  unprotect-holds =
+      let s = decode words in
+      rw (eq-eqb (length words) size sized)
+      (settled-holds words sized buf (ssrcOf (take n buf)) Receiving
+      (unprotectEffect (s .setup .keys) (s .setup .policy) (listedBy (s .setup)) buf n (recordFor (s .records) (ssrcOf (take n buf)) Receiving))
+      (unprotect-fits (s .setup .keys) (s .setup .policy) (listedBy (s .setup)) buf n (recordFor (s .records) (ssrcOf (take n buf)) Receiving) (found-fits words sized (ssrcOf (take n buf)) Receiving)))
+
+-- ---- add
+
+module _ (words : List ℕ) (sized : length words ≡ size) (ssrc rollover : ℕ) (ssrc32 : ssrc < 2 ^ 32) (rollover32 : rollover < 2 ^ 32) (way : Way) where
+  abbrev new : Record
+  new = freshRecord ssrc way rollover
+
+  is-marked : decode words .setup .made ≡ true → isMark (word words 0) ≡ true
+  is-marked m = go (isMark (word words 0)) refl
+    where
+      go : (b : Bool) → isMark (word words 0) ≡ b → isMark (word words 0) ≡ true
+      go true e = e
+      go false e = apart (let z = ap (λ (s : Session). s .setup .made) (not-made words e) in cc)
+
+  placed-holds : decode words .setup .made ≡ true → isFull (decode words .records) ≡ false → (p : Place) → freeFrom 0 (decode words .records) ≡ p
+      → Holds (withoutBuffer 0 (placedAt words (freeFrom 0 (decode words .records)) new)) (record { setup = decode words .setup; records = placed (decode words .records) new })
+  placed-holds m f Nowhere e = apart (let z = full (decode words .records) e in cc)
+  placed-holds m f (At i) e =
+      let h = free-here (decode words .records) i e in
+      let k = is-marked m in
+      let n : length (decode words .records) ≡ 32 = ap (λ (s : Session). length (s .records)) (made words k) ∙ records-length words in
+      let j : i < 32 = omega (arith, h .inside) in
+      let fits : RecordFits new = record { ssrc = ssrc32; rollover = rollover32; replay = fresh-blocks blocks } in
+      rw e
+      (record {
+        session =
+            record-decodes words sized i j k new fits
+            ∙ sym (ap (λ (l : List Record). record { setup = decode words .setup; records = l }) (h .stored new));
+        long = record-long words sized i j new fits;
+      })
+
+  pub added-holds : Holds (addedIn words new (addOf (decode words) ssrc way rollover)) (addOf (decode words) ssrc way rollover .session)
+  unfolding addOf
+  added-holds = go (decode words .setup .made) (hasSsrc (decode words .records) ssrc) (isFull (decode words .records)) refl refl
+    where
+      outcome : Bool → Bool → Bool → Made
+      outcome a b c =
+          pick (not a) (notAdded (decode words) refusal.Keys)
+          (pick b (notAdded (decode words) refusal.Twice)
+          (pick c (notAdded (decode words) refusal.Full)
+          (record { number = 0; session = record { setup = decode words .setup; records = placed (decode words .records) new } })))
+
+      go : (a b c : Bool) → decode words .setup .made ≡ a → isFull (decode words .records) ≡ c → Holds (addedIn words new (outcome a b c)) (outcome a b c .session)
+      go false b c m f = record { session = refl; long = sized }
+      go true true c m f = record { session = refl; long = sized }
+      go true false true m f = record { session = refl; long = sized }
+      go true false false m f = placed-holds m f (freeFrom 0 (decode words .records)) refl

@@ -1,0 +1,9 @@
+pub mod Places
+pub mod Adding
+pub mod Ids
+pub mod Records
+pub mod Front
+pub mod Memory
+pub mod RoundTrip
+pub mod Shapes
+pub mod Decoding

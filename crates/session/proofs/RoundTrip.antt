@@ -1,0 +1,136 @@
+-- A session written to memory and read back is the same.
+use mathlib.Core.Path.{_≡_, refl, sym, ap, ap₂, _∙_}
+use mathlib.Core.Bool.{Bool, true, false}
+use mathlib.Core.List.{List, [], _∷_, _++_, map}
+use Prim.Native.Nat.{ℕ, _+_, _-_, _*_, _^_}
+use native.Mathlib.Omega.{arith}
+use lib.ListN.{length, replicate, length-append}
+use lib.Seq.{take-at, drop-at}
+use Rattle.bits.specs.Lists.{Each}
+use Rattle.memory.specs.Parts.{cellsOf, join}
+use Rattle.memory.specs.Words.{Lasts16, Lasts14, Numbers5}
+use Rattle.memory.proofs.Bytes.{sixteen-kept, fourteen-kept, five-kept}
+use Rattle.memory.proofs.Parts.{cut-joined, join-length}
+use Rattle.policies.specs.declared.policy.Policy.{Policy}
+use Rattle.policies.specs.declared.policy.Policy.the-variants.{Plain, Cryptex, CryptexRequired, Mask}
+use Rattle.policies.specs.Policies.{policyNumber}
+use Rattle.session.specs.Session.{Record, Setup, Session}
+use Rattle.session.specs.Making.{policyOf, unmade, sessionOf}
+use Rattle.session.specs.Memory.{each, recordWords, recordAt, setupLayout, mark, isMark, setupFields, setupFrom, front, size, recordsWords, encode, recordsIn, setupAt, decode}
+use Rattle.session.specs.RoundTrip.{SetupFits, RecordFits, Fits, SessionsLast}
+use Rattle.session.proofs.Records.{record-kept, record-length}
+
+-- ---- records
+
+records-kept : (l : List Record) → Each RecordFits l → cellsOf each (length l) recordAt (recordsWords l) ≡ l
+unfolding cellsOf recordsWords
+records-kept [] f = refl
+records-kept (r ∷ l) f =
+    ap₂ (λ (a : Record) (b : List Record). a ∷ b)
+    (ap recordAt (take-at (recordWords r) (recordsWords l) each (record-length r (f .0))) ∙ record-kept r (f .0))
+    (ap (cellsOf each (length l) recordAt) (drop-at (recordWords r) (recordsWords l) each (record-length r (f .0))) ∙ records-kept l (f .1))
+
+records-long : (l : List Record) → Each RecordFits l → length (recordsWords l) ≡ each * length l
+unfolding recordsWords
+records-long [] f = refl
+records-long (r ∷ l) f = length-append (recordWords r) (recordsWords l) ∙ (let e = records-long l (f .1) in omega (arith, record-length r (f .0)))
+
+-- ---- what the session was made from
+
+policy-kept : (p : Policy) → policyOf (mark + policyNumber p - mark) ≡ p
+policy-kept Plain = refl
+policy-kept Cryptex = refl
+policy-kept CryptexRequired = refl
+policy-kept Mask = refl
+
+marked : (p : Policy) → isMark (mark + policyNumber p) ≡ true
+marked Plain = refl
+marked Cryptex = refl
+marked CryptexRequired = refl
+marked Mask = refl
+
+-- what has to come back of a setup's words, one array at a time
+pub record Lasts (s : Setup) : Type 0 where
+  pub key : Lasts16 (s .key)
+  pub salt : Lasts14 (s .salt)
+  pub ids : length (s .ids) ≡ 4
+  pub cipher : Lasts16 (s .keys .cipher)
+  pub own-salt : Lasts14 (s .keys .salt)
+  pub header-cipher : Lasts16 (s .keys .«header_cipher»)
+  pub header-salt : Lasts14 (s .keys .«header_salt»)
+  pub inner : Numbers5 (s .keys .auth .inner)
+  pub outer : Numbers5 (s .keys .auth .outer)
+
+fits-last : (s : Setup) → SetupFits s → Lasts s
+fits-last s f =
+    record {
+      key = sixteen-kept (s .key) (f .key);
+      salt = fourteen-kept (s .salt) (f .salt);
+      ids = f .ids;
+      cipher = sixteen-kept (s .keys .cipher) (f .keys .cipher);
+      own-salt = fourteen-kept (s .keys .salt) (f .keys .salt);
+      header-cipher = sixteen-kept (s .keys .«header_cipher») (f .keys .header-cipher);
+      header-salt = fourteen-kept (s .keys .«header_salt») (f .keys .header-salt);
+      inner = five-kept (s .keys .auth .inner) (f .keys .inner);
+      outer = five-kept (s .keys .auth .outer) (f .keys .outer);
+    }
+
+module _ (s : Setup) (lasts : Lasts s) where
+  sizes : map length (setupFields s) ≡ setupLayout
+  sizes = rw (lasts .ids, lasts .inner .long, lasts .outer .long)
+
+  fields-kept : s .made ≡ true → setupFrom (setupFields s) ≡ s
+  fields-kept m =
+      rw (
+        sym m,
+        policy-kept (s .policy),
+        lasts .key,
+        lasts .salt,
+        lasts .cipher,
+        lasts .own-salt,
+        lasts .header-cipher,
+        lasts .header-salt,
+        lasts .inner .kept,
+        lasts .outer .kept,
+      )
+
+  pub setup-long : length (join (setupFields s)) ≡ front
+  setup-long = join-length setupLayout (setupFields s) sizes
+
+  pub session-kept : (l : List Record) → s .made ≡ true → length l ≡ 32 → Each RecordFits l → decode (join (setupFields s) ++ recordsWords l) ≡ record { setup = s; records = l }
+  unfolding decode recordsIn setupAt
+  session-kept l m n f =
+      rw (marked (s .policy))
+      (ap₂ (λ (a : Setup) (b : List Record). record { setup = a; records = b })
+      (ap setupFrom (cut-joined setupLayout (setupFields s) (recordsWords l) sizes) ∙ fields-kept m)
+      (ap (cellsOf each 32 recordAt) (drop-at (join (setupFields s)) (recordsWords l) front setup-long)
+      ∙ ap (λ (k : ℕ). cellsOf each k recordAt (recordsWords l)) (sym n) ∙ records-kept l f))
+
+-- ---- the claim
+
+encode-made : (s : Session) → s .setup .made ≡ true → encode s ≡ join (setupFields (s .setup)) ++ recordsWords (s .records)
+unfolding encode
+encode-made s m = rw m
+
+pub encode-unmade : encode (sessionOf unmade) ≡ replicate size 0
+unfolding encode
+encode-unmade = refl
+
+encode-not : (s : Session) → s .setup .made ≡ false → length (encode s) ≡ size
+unfolding encode
+encode-not s m = rw m
+
+pub sessions-last : SessionsLast
+unfolding decode
+sessions-last =
+    record {
+      made = λ s m f. ap decode (encode-made s m) ∙ session-kept (s .setup) (fits-last (s .setup) (f .setup)) (s .records) m (f .places) (f .records);
+      unmade = ap decode encode-unmade;
+      long = λ s f. long s f (s .setup .made) refl;
+    }
+  where
+    long : (s : Session) → Fits s → (b : Bool) → s .setup .made ≡ b → length (encode s) ≡ size
+    long s f true e =
+        ap length (encode-made s e) ∙ length-append (join (setupFields (s .setup))) (recordsWords (s .records))
+        ∙ ap₂ (λ (a b : ℕ). a + b) (setup-long (s .setup) (fits-last (s .setup) (f .setup))) (records-long (s .records) (f .records) ∙ ap (λ (k : ℕ). each * k) (f .places))
+    long s f false e = encode-not s e

@@ -1,0 +1,9 @@
+pub mod Session
+pub mod Records
+pub mod Making
+pub mod Adding
+pub mod Packets
+pub mod Places
+pub mod Memory
+pub mod Calls
+pub mod RoundTrip

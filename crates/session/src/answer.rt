@@ -1,0 +1,47 @@
+// What the calls give back, and the border's own refusals.
+use bits::refusal::Refusal;
+use bits::refusal::number;
+use rtp_header::header::Header;
+use rtp_header::header::header_number;
+ghost use mathlib.Core.Path.{_≡_};
+ghost use Rattle.bits.specs.Refusals.{numberOf};
+ghost use Rattle.rtp_header.specs.Header.{headerNumber};
+
+// Session memory of another size.
+pub const MEMORY: u32 = 100;
+
+// A way that is neither 0, sending, nor 1, receiving.
+pub const WAY: u32 = 101;
+
+// 0 or the number of a refusal, and the packet's new length: 0 with a refusal.
+#[repr(C)]
+pub struct Answer {
+    pub number: u32,
+    pub length: usize,
+}
+
+// The number of a refusal of document 01.
+pub fn code(refusal: Refusal) -> u32
+    ensures { λ r. ⌜ r ≡ numberOf refusal ⌝ }
+{
+    number(refusal) as u32
+}
+
+pub fn refused(refusal: Refusal) -> Answer
+    ensures { λ r. ⌜ r ≡ record { number = numberOf refusal; length = 0 } ⌝ }
+{
+    Answer {
+        number: code(refusal),
+        length: 0,
+    }
+}
+
+// Refused with the header reader's number.
+pub fn unread(header: Header) -> Answer
+    ensures { λ r. ⌜ r ≡ record { number = headerNumber header; length = 0 } ⌝ }
+{
+    Answer {
+        number: header_number(header) as u32,
+        length: 0,
+    }
+}

@@ -1,0 +1,188 @@
+-- What the front of a packet call found decides the call: for both ways at once.
+use mathlib.Core.Path.{_≡_, refl, sym, ap, ap₂, _∙_}
+use mathlib.Core.Bool.{Bool, true, false}
+use mathlib.Core.List.{List}
+use Prim.Native.Nat.{ℕ, _+_, _≤_, _<_}
+use native.Mathlib.Omega.{arith}
+use borrow.Author.Tests.{ne-eqb, le-ltb, ltb-false}
+use lib.Dec.{eqb, ltb}
+use lib.ListN.{length, getD, take}
+use lib.Seq.{getD-set-same}
+use Rattle.bits.specs.Pick.{pick}
+use Rattle.bits.specs.Refusals.{numberOf}
+use Rattle.bits.specs.declared.refusal.Refusal.{Refusal}
+use Rattle.bits.specs.declared.refusal.Refusal.the-variants as refusal
+use Rattle.bits.proofs.Refusals.{above-zero}
+use Rattle.memory.specs.Words.{word}
+use Rattle.rtp_header.specs.declared.header.Header.{Header}
+use Rattle.rtp_header.specs.declared.header.Header.the-variants.{Read, Refused}
+use Rattle.rtp_header.specs.declared.header.Layout.{Layout}
+use Rattle.rtp_header.specs.Header.{seqOf, ssrcOf}
+use Rattle.rtp_elements.specs.Mask.{listedIn}
+use Rattle.replay.specs.declared.answer.Judged.{Judged}
+use Rattle.replay.specs.declared.answer.Judged.the-variants.{Index, Refused as NoIndex}
+use Rattle.policies.specs.declared.policy.Policy.{Policy}
+use Rattle.policies.specs.declared.policy.Way.{Way}
+use Rattle.policies.specs.declared.policy.Way.the-variants.{Sending, Receiving}
+use Rattle.policies.specs.Judging.{addedOf, judgedOf}
+use Rattle.policies.proofs.Layouts.{apart}
+use Rattle.session.specs.declared.answer.Answer.{Answer as Given}
+use Rattle.session.specs.declared.place.Place.{Place}
+use Rattle.session.specs.declared.place.Place.the-variants.{At, Nowhere}
+use Rattle.session.specs.Calls.{Left, wrongMemory, refusedWith, Gives, settledIn, protectCall, unprotectCall}
+use Rattle.session.specs.Memory.{isMark, policyAt, size, decode}
+use Rattle.session.specs.Packets.{tagLength, wireLength, Effect, refuse, give, protectIn, protectRead, protectEffect, unprotectIn, unprotectRead, unprotectEffect, settled, protectOf, unprotectOf}
+use Rattle.session.specs.Places.{noRecord, placeFrom}
+use Rattle.session.specs.Records.{Found, none, some, recordFor, storeFor, withReplay}
+use Rattle.session.specs.Session.{Record, Session}
+use Rattle.session.proofs.Memory.{made, policy-is, unmade-nowhere}
+use Rattle.session.proofs.Places.{found-here, nowhere}
+use Rattle.front.specs.declared.open.Opened.{Opened}
+use Rattle.records.specs.Tracks.{recordIn, judgedBy}
+use Rattle.front.specs.Opening.{shut, noMemory, openIndex, openAt, openRead, openOf}
+use Rattle.streams.specs.Steps.{effectAt, leftBy}
+use Rattle.streams.proofs.Effects.{wire-length, not-taken}
+use Rattle.srtp.specs.Packets.{callOf}
+
+module _ (words buf : List ℕ) (n : ℕ) where
+  abbrev s : Session
+  s = decode words
+
+  abbrev x : ℕ
+  x = ssrcOf (take n buf)
+
+  -- memory and answer of an effect, as the definitions of the calls have them
+  abbrev settledBy : Way → Effect → Left
+  settledBy way e = settledIn words x way (settled s buf x way e)
+
+  refused-left : (way : Way) (r : Refusal) → settledBy way (refuse r) ≡ refusedWith (numberOf r) words buf
+  refused-left way r = rw (ne-eqb (numberOf r) 0 (λ z. omega (arith, above-zero r)))
+
+  abbrev effectIn : Way → Found → Effect
+  effectIn Sending found = protectIn (s .setup .keys) (s .setup .policy) (listedIn (s .setup .ids)) buf n found
+  effectIn Receiving found = unprotectIn (s .setup .keys) (s .setup .policy) (listedIn (s .setup .ids)) buf n found
+
+  no-stream : (way : Way) → effectIn way none ≡ refuse refusal.Stream
+  no-stream Sending = refl
+  no-stream Receiving = refl
+
+  -- ---- the record at place i
+
+  module _ (way : Way) (i : ℕ) (here : placeFrom 0 (s .records) x way ≡ At i) where
+    its-left : (e : Effect) → settledBy way e ≡ leftBy words i buf e
+    its-left (refuse r) = refused-left way r
+    its-left (give m after t) =
+        let w = found-here (s .records) x way i here in
+        let r : getD (storeFor (s .records) x way t) i noRecord .replay ≡ t =
+        ap (λ (l : List Record). getD l i noRecord .replay) (w .stored t)
+        ∙ ap (λ (q : Record). q .replay) (getD-set-same (s .records) i (withReplay (getD (s .records) i noRecord) t) noRecord (w .inside)) in
+        rw (here, r)
+
+    -- a session with a record is made
+    is-made : isMark (word words 0) ≡ true
+    is-made = go (isMark (word words 0)) refl
+      where
+        go : (b : Bool) → isMark (word words 0) ≡ b → isMark (word words 0) ≡ true
+        go true e = e
+        go false e = apart (let z = unmade-nowhere words e x way in cc)
+
+    its-effect : effectIn way (some (getD (s .records) i noRecord)) ≡ effectAt way words i buf n
+    its-effect = go way
+      where
+        go : (v : Way) → effectIn v (some (getD (s .records) i noRecord)) ≡ effectAt v words i buf n
+        go Sending = rw (sym (policy-is words), made words is-made)
+        go Receiving = rw (sym (policy-is words), made words is-made)
+
+  -- ---- what the front answered
+
+  abbrev ended : Way → ℕ → ℕ → Header → Left
+  ended way number i (Refused r) = refusedWith number words buf
+  ended way number i (Read h) = leftBy words i buf (effectAt way words i buf n)
+
+  abbrev endedBy : Way → Opened → Left
+  endedBy way o = ended way (o .number) (o .place) (o .header)
+
+  -- ORDER, WORN, OLD, REPEAT
+  index-left : (way : Way) (h : Layout) (i : ℕ) (j : Judged) → judgedBy way (recordIn words i) (seqOf (take n buf)) ≡ j
+      → leftBy words i buf (effectAt way words i buf n) ≡ endedBy way (openIndex way words (take n buf) h i j)
+  index-left way h i (NoIndex r) e = ap (leftBy words i buf) (not-taken words i buf n way r e)
+  index-left way h i (Index k) e = refl
+
+  -- STREAM
+  placed-left : (way : Way) (h : Layout) (p : Place) → placeFrom 0 (s .records) x way ≡ p
+      → settledBy way (effectIn way (recordFor (s .records) x way)) ≡ endedBy way (openAt way words (take n buf) h p)
+  placed-left way h Nowhere e = rw (nowhere (s .records) x way e) (ap (settledBy way) (no-stream way) ∙ refused-left way refusal.Stream)
+  placed-left way h (At i) e =
+      rw (found-here (s .records) x way i e .found)
+      (its-left way i e (effectIn way (some (getD (s .records) i noRecord))) ∙ ap (leftBy words i buf) (its-effect way i e)
+      ∙ index-left way h i (judgedBy way (recordIn words i) (seqOf (take n buf))) refl)
+
+  -- SHORT to LARGE, then ROOM
+  abbrev readBy : Way → Header → Found → Effect
+  readBy Sending j found = protectRead (s .setup .keys) (s .setup .policy) (listedIn (s .setup .ids)) buf n j found
+  readBy Receiving j found = unprotectRead (s .setup .keys) (s .setup .policy) (listedIn (s .setup .ids)) buf n j found
+
+  module _ (inside : n ≤ length buf) where
+    read-left : (way : Way) (j : Header) → judgedOf way (policyAt (word words 0)) tagLength (take n buf) ≡ j
+        → settledBy way (readBy way j (recordFor (s .records) x way)) ≡ endedBy way (openRead way words buf n j)
+    read-left Sending (Refused r) e = refused-left Sending r
+    read-left Receiving (Refused r) e = refused-left Receiving r
+    read-left Receiving (Read h) e =
+        let z : ltb (length buf) (n + 0) ≡ false = le-ltb (length buf) (n + 0) (omega arith) in
+        placed-left Receiving h (placeFrom 0 (s .records) x Receiving) refl
+        ∙ sym (ap (λ (b : Bool). endedBy Receiving (pick b (shut refusal.Room) (openAt Receiving words (take n buf) h (placeFrom 0 (s .records) x Receiving)))) z)
+    read-left Sending (Read h) e =
+        let l : wireLength (s .setup .policy) buf n ≡ n + addedOf Sending (policyAt (word words 0)) tagLength h =
+        ap (λ (p : Policy). wireLength p buf n) (sym (policy-is words)) ∙ wire-length (policyAt (word words 0)) buf n h e in
+        rw l (go (ltb (length buf) (n + addedOf Sending (policyAt (word words 0)) tagLength h)))
+      where
+        go : (b : Bool) → settledBy Sending (pick b (refuse refusal.Room) (effectIn Sending (recordFor (s .records) x Sending)))
+            ≡ endedBy Sending (pick b (shut refusal.Room) (openAt Sending words (take n buf) h (placeFrom 0 (s .records) x Sending)))
+        go true = refused-left Sending refusal.Room
+        go false = placed-left Sending h (placeFrom 0 (s .records) x Sending) refl
+
+  -- LENGTH, and the memory's size
+  abbrev lengthBy : Way → Effect
+  lengthBy way = pick (ltb (length buf) n) (refuse refusal.Length) (readBy way (judgedOf way (policyAt (word words 0)) tagLength (take n buf)) (recordFor (s .records) x way))
+
+  length-left : (way : Way) → settledBy way (lengthBy way)
+      ≡ endedBy way (pick (ltb (length buf) n) (shut refusal.Length) (openRead way words buf n (judgedOf way (policyAt (word words 0)) tagLength (take n buf))))
+  length-left way = go (ltb (length buf) n) refl
+    where
+      j : Header
+      j = judgedOf way (policyAt (word words 0)) tagLength (take n buf)
+
+      go : (b : Bool) → ltb (length buf) n ≡ b → settledBy way (pick b (refuse refusal.Length) (readBy way j (recordFor (s .records) x way)))
+          ≡ endedBy way (pick b (shut refusal.Length) (openRead way words buf n j))
+      go true e = refused-left way refusal.Length
+      go false e = read-left (ltb-false (length buf) n e) way j refl
+
+  sized-call : (way : Way) → callOf way words buf n ≡ pick (eqb (length words) size) (settledBy way (lengthBy way)) (refusedWith wrongMemory words buf)
+  unfolding protectCall unprotectCall protectOf unprotectOf protectEffect unprotectEffect
+  sized-call Sending = rw (policy-is words)
+  sized-call Receiving = rw (policy-is words)
+
+  fronted : (way : Way) → callOf way words buf n ≡ endedBy way (openOf way words buf n)
+  unfolding openOf
+  fronted way = sized-call way ∙ go (eqb (length words) size)
+    where
+      go : (b : Bool) → pick b (settledBy way (lengthBy way)) (refusedWith wrongMemory words buf)
+          ≡ endedBy way
+          (pick b
+          (pick (ltb (length buf) n) (shut refusal.Length) (openRead way words buf n (judgedOf way (policyAt (word words 0)) tagLength (take n buf))))
+          noMemory)
+      go true = length-left way
+      go false = refl
+
+  -- ---- the two ends of a call
+
+  module _ (way : Way) (o : Opened) (opens : o ≡ openOf way words buf n) where
+    ended-so : callOf way words buf n ≡ endedBy way o
+    ended-so = fronted way ∙ ap (endedBy way) (sym opens)
+
+    pub refused-gives : (r : Refusal) → o .header ≡ Refused r → Gives (callOf way words buf n) (record { number = o .number; length = 0 }) buf words
+    refused-gives r e = rw (ended-so, e) (record { answer = refl; buffer = refl; words = refl })
+
+    pub stepped-gives : (h : Layout) → o .header ≡ Read h → (r : Given) (after memory : List ℕ)
+        → Gives (leftBy words (o .place) buf (effectAt way words (o .place) buf n)) r after memory → Gives (callOf way words buf n) r after memory
+    stepped-gives h e r after memory g = rw (ended-so, e) g

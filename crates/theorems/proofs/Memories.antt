@@ -1,0 +1,97 @@
+-- Lists of calls on two memories.
+use mathlib.Core.Path.{_≡_, refl, sym, ap, ap₂, subst, _∙_}
+use mathlib.Core.List.{List, [], _∷_}
+use Prim.Native.Nat.{ℕ}
+use borrow.Author.Tests.{eq-eqb}
+use lib.ListN.{length}
+use Rattle.bits.specs.Lists.{Each}
+use Rattle.policies.specs.declared.policy.Way.{Way}
+use Rattle.policies.specs.declared.policy.Way.the-variants.{Sending, Receiving}
+use Rattle.session.specs.Session.{Session}
+use Rattle.session.specs.Adding.{addOf}
+use Rattle.session.specs.Packets.{Answer}
+use Rattle.session.specs.Calls.{addCall}
+use Rattle.session.specs.Memory.{size, decode}
+use Rattle.session.proofs.Decoding.{Holds, protect-answers, protect-holds, unprotect-answers, unprotect-holds, added-holds}
+use Rattle.theorems.specs.Lists.{End, sender, receiver, Call, add, protect, unprotect, endOf, Sessions, sessionAt, withSession, addOutcome, outcomeOf, answerOf, next, Event, event, eventsOf, after}
+use Rattle.theorems.specs.Arrivals.{EventsFollowTheLedger, ArrivalsFollowTheLedger}
+use Rattle.theorems.specs.Memories.{Memories, memoryAt, withMemory, wayNumber, leftBy, nextIn, eventsIn, afterIn, decoded, Sized, Words32, AnswersAsSessions, ArrivalsInMemory}
+use Rattle.theorems.proofs.Arriving.{follow}
+
+-- ---- one call
+
+module _ (words : List ℕ) (sized : length words ≡ size) where
+  add-answers : (ssrc rollover : ℕ) (way : Way) → addCall words ssrc (wayNumber way) rollover .answer ≡ addOutcome (addOf (decode words) ssrc way rollover) .answer
+  unfolding addCall
+  add-answers ssrc rollover Sending = rw (eq-eqb (length words) size sized)
+  add-answers ssrc rollover Receiving = rw (eq-eqb (length words) size sized)
+
+  answers : (c : Call) → leftBy words c .answer ≡ outcomeOf (decode words) c .answer
+  answers (add e ssrc way rollover) = add-answers ssrc rollover way
+  answers (protect e buf n) = protect-answers words sized buf n
+  answers (unprotect e buf n) = unprotect-answers words sized buf n
+
+  add-holds : (ssrc rollover : ℕ) → (e : End) (way : Way) → Words32 (add e ssrc way rollover) → Holds (addCall words ssrc (wayNumber way) rollover) (addOf (decode words) ssrc way rollover .session)
+  unfolding addCall
+  add-holds ssrc rollover e Sending w = rw (eq-eqb (length words) size sized) (added-holds words sized ssrc rollover (w .0) (w .1) Sending)
+  add-holds ssrc rollover e Receiving w = rw (eq-eqb (length words) size sized) (added-holds words sized ssrc rollover (w .0) (w .1) Receiving)
+
+  holds : (c : Call) → Words32 c → Holds (leftBy words c) (outcomeOf (decode words) c .session)
+  holds (add e ssrc way rollover) w = add-holds ssrc rollover e way w
+  holds (protect e buf n) w = protect-holds words sized buf n
+  holds (unprotect e buf n) w = unprotect-holds words sized buf n
+
+-- ---- on two memories
+
+at-end : (e : End) (m : Memories) → decode (memoryAt e m) ≡ sessionAt e (decoded m)
+at-end sender m = refl
+at-end receiver m = refl
+
+with-end : (e : End) (m : Memories) (words : List ℕ) → decoded (withMemory e m words) ≡ withSession e (decoded m) (decode words)
+with-end sender m words = refl
+with-end receiver m words = refl
+
+sized-at : (e : End) (m : Memories) → Sized m → length (memoryAt e m) ≡ size
+sized-at sender m s = s .atSender
+sized-at receiver m s = s .atReceiver
+
+sized-with : (e : End) (m : Memories) (words : List ℕ) → Sized m → length words ≡ size → Sized (withMemory e m words)
+sized-with sender m words s l = record { atSender = l; atReceiver = s .atReceiver }
+sized-with receiver m words s l = record { atSender = s .atSender; atReceiver = l }
+
+module _ (m : Memories) (s : Sized m) (c : Call) (w : Words32 c) where
+  after-call : Holds (leftBy (memoryAt (endOf c) m) c) (outcomeOf (decode (memoryAt (endOf c) m)) c .session)
+  after-call = holds (memoryAt (endOf c) m) (sized-at (endOf c) m s) c w
+
+  next-sized : Sized (nextIn m c)
+  next-sized = sized-with (endOf c) m (leftBy (memoryAt (endOf c) m) c .words) s (after-call .long)
+
+  next-decoded : decoded (nextIn m c) ≡ next (decoded m) c
+  next-decoded =
+      with-end (endOf c) m (leftBy (memoryAt (endOf c) m) c .words)
+      ∙ ap (withSession (endOf c) (decoded m)) (after-call .session ∙ ap (λ (t : Session). outcomeOf t c .session) (at-end (endOf c) m))
+
+  same-answer : leftBy (memoryAt (endOf c) m) c .answer ≡ answerOf (decoded m) c
+  same-answer = answers (memoryAt (endOf c) m) (sized-at (endOf c) m s) c ∙ ap (λ (t : Session). outcomeOf t c .answer) (at-end (endOf c) m)
+
+same-events : (m : Memories) → Sized m → (calls : List Call) → Each Words32 calls → eventsIn m calls ≡ eventsOf (decoded m) calls
+same-events m s [] w = refl
+same-events m s (c ∷ calls) w =
+    ap₂ (λ (a : Answer) (l : List Event). event c a ∷ l) (same-answer m s c (w .0))
+    (same-events (nextIn m c) (next-sized m s c (w .0)) calls (w .1) ∙ ap (λ (t : Sessions). eventsOf t calls) (next-decoded m s c (w .0)))
+
+same-sessions : (m : Memories) → Sized m → (calls : List Call) → Each Words32 calls → decoded (afterIn m calls) ≡ after (decoded m) calls
+same-sessions m s [] w = refl
+same-sessions m s (c ∷ calls) w =
+    same-sessions (nextIn m c) (next-sized m s c (w .0)) calls (w .1) ∙ ap (λ (t : Sessions). after t calls) (next-decoded m s c (w .0))
+
+-- ---- the claims
+
+pub answer-as-sessions : AnswersAsSessions
+answer-as-sessions = record { events = same-events; sessions = same-sessions }
+
+pub arrivals-in-memory : ArrivalsInMemory
+unfolding ArrivalsInMemory ArrivalsFollowTheLedger
+arrivals-in-memory key salt policy ids m s made calls w b =
+    subst (λ (es : List Event). EventsFollowTheLedger policy es) (sym (same-events m s calls w ∙ ap (λ (t : Sessions). eventsOf t calls) made))
+    (follow key salt policy ids calls b)
