@@ -1,4 +1,5 @@
-//! The functions of `libdelugash.a`. A slice crosses as a pointer and a length; nothing else is required of a caller.
+//! The functions of `libdelugash.a`. A slice crosses as a pointer, which is not null, and a length; memory that a
+//! call writes overlaps nothing else that it is lent.
 
 #[repr(C)]
 #[derive(Clone, Copy)]

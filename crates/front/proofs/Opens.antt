@@ -94,7 +94,7 @@ module _ (way : Way) (words buf : List ℕ) (n : ℕ) where
           ready-by (Refused r) q e = rw (sym e) tt
           ready-by (Read l) q e =
               let same : l ≡ h = same-layout (placeFrom 0 (decode words .records) (ssrcOf (take n buf)) way) l (e ∙ ap (λ (x : Opened). x .header) stream-so) in
-              rw (sym e) (record { sized = sized; inside = inside; judged = judged-so ∙ read ∙ ap Read (sym same); room = rw (same, more-so) room; placed = q })
+              rw (sym e) (record { readable = record { sized = sized; inside = inside; judged = judged-so ∙ read ∙ ap Read (sym same); room = rw (same, more-so) room }; placed = q })
             where
               by-index : (i : ℕ) (d : Judged) (l : Layout) → Read l ≡ openIndex way words (take n buf) h i d .header → l ≡ h
               by-index i (NoIndex r) l e = apart cc

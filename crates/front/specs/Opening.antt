@@ -85,11 +85,15 @@ PlacedAt way words p i k (Refused r) = Unit {0}
 abbrev pub InStream : Way → List ℕ → List ℕ → Opened → Type 0
 InStream way words p o = PlacedAt way words p (o .place) (o .index) (o .header)
 
-pub record Ready (way : Way) (words buf : List ℕ) (n i k : ℕ) (h : Layout) : Type 0 where
+-- the packet of n bytes was judged, has layout h, and there is room for what is made of it
+pub record Readable (way : Way) (words buf : List ℕ) (n : ℕ) (h : Layout) : Type 0 where
   pub sized : length words ≡ size
   pub inside : n ≤ length buf
   pub judged : judgedOf way (policyAt (word words 0)) tagLength (take n buf) ≡ Read h
   pub room : n + addedOf way (policyAt (word words 0)) tagLength h ≤ length buf
+
+pub record Ready (way : Way) (words buf : List ℕ) (n i k : ℕ) (h : Layout) : Type 0 where
+  pub readable : Readable way words buf n h
   pub placed : Placed way words (take n buf) i k
 
 abbrev pub ReadyAt : Way → List ℕ → List ℕ → ℕ → ℕ → ℕ → Header → Type 0

@@ -1,4 +1,4 @@
-// Words put over a part of memory, by the only loops over words.
+// Words put over a part of memory: another part's, or zeros.
 ghost use mathlib.Core.Path.{_≡_};
 ghost use lib.ListN.{length, replicate};
 

@@ -1,4 +1,4 @@
--- A packet beside its stream's record, by the way: its index or the refusal (document 01, numbers 10 to 13), and the replay state once it was taken.
+-- A packet beside its stream's record, sent or received: its index or the refusal (document 01, numbers 10 to 13), and the replay state once it was taken.
 use mathlib.Core.List.{List}
 use Prim.Native.Nat.{ℕ}
 use lib.ListN.{getD}

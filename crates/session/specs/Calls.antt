@@ -37,7 +37,7 @@ wayOf n = pick (eqb n 0) Sending Receiving
 
 -- ---- what a call leaves
 
--- number, length and buffer; make and add have neither length nor buffer
+-- the answer (number, length and buffer; make and add have neither length nor buffer), and the memory afterwards
 pub record Left : Type 0 where
   pub answer : Answer
   pub words : List ℕ
@@ -46,7 +46,7 @@ abbrev pub refusedWith : ℕ → List ℕ → List ℕ → Left
 refusedWith number words buf = record { answer = record { number = number; length = 0; buffer = buf }; words = words }
 
 abbrev pub withoutBuffer : ℕ → List ℕ → Left
-withoutBuffer number words = refusedWith number words []
+withoutBuffer number words = record { answer = record { number = number; length = 0; buffer = [] }; words = words }
 
 -- what a packet call returned, and what it left, are these
 pub record Gives (l : Left) (r : Given) (buf memory : List ℕ) : Type 0 where

@@ -198,7 +198,7 @@ recordsWords (r ∷ l) = recordWords r ++ recordsWords l
 unfoldable pub encode : Session → List ℕ
 encode s = pick (s .setup .made) (join (setupFields (s .setup)) ++ recordsWords (s .records)) (replicate size 0)
 
--- 32 records after the front
+-- 32 records after the words of the setup
 unfoldable pub recordsIn : List ℕ → List Record
 recordsIn words = cellsOf each 32 recordAt (drop front words)
 

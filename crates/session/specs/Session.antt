@@ -19,7 +19,7 @@ pub record Record : Type 0 where
   pub rollover : ℕ
   pub replay : ReplayState
 
--- Whether it was made, policy, master key, master salt and ids, and the session keys derived from them. No call changes it.
+-- Whether it was made, policy, master key, master salt and ids, and the session keys derived from them. No call but make changes it.
 -- Bit id % 64 of word id / 64 of `ids` says whether an id is in the set.
 pub record Setup : Type 0 where
   pub made : Bool

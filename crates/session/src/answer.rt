@@ -1,11 +1,8 @@
 // What the calls give back, and the border's own refusals.
 use bits::refusal::Refusal;
 use bits::refusal::number;
-use rtp_header::header::Header;
-use rtp_header::header::header_number;
 ghost use mathlib.Core.Path.{_≡_};
 ghost use Rattle.bits.specs.Refusals.{numberOf};
-ghost use Rattle.rtp_header.specs.Header.{headerNumber};
 
 // Session memory of another size.
 pub const MEMORY: u32 = 100;
@@ -32,16 +29,6 @@ pub fn refused(refusal: Refusal) -> Answer
 {
     Answer {
         number: code(refusal),
-        length: 0,
-    }
-}
-
-// Refused with the header reader's number.
-pub fn unread(header: Header) -> Answer
-    ensures { λ r. ⌜ r ≡ record { number = headerNumber header; length = 0 } ⌝ }
-{
-    Answer {
-        number: header_number(header) as u32,
         length: 0,
     }
 }

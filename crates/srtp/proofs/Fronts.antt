@@ -42,7 +42,11 @@ use Rattle.records.specs.Tracks.{recordIn, judgedBy}
 use Rattle.front.specs.Opening.{shut, noMemory, openIndex, openAt, openRead, openOf}
 use Rattle.streams.specs.Steps.{effectAt, leftBy}
 use Rattle.streams.proofs.Effects.{wire-length, not-taken}
-use Rattle.srtp.specs.Packets.{callOf}
+
+-- protect where the way is sending, unprotect where it is receiving
+abbrev pub callOf : Way → List ℕ → List ℕ → ℕ → Left
+callOf Sending words buf n = protectCall words buf n
+callOf Receiving words buf n = unprotectCall words buf n
 
 module _ (words buf : List ℕ) (n : ℕ) where
   abbrev s : Session

@@ -29,7 +29,7 @@ use Rattle.session.specs.Memory.{policyAt, setupAt}
 use Rattle.session.specs.Packets.{tagLength, wireLength, Effect, refuse, give}
 use Rattle.records.specs.Tracks.{recordIn, judgedBy, committedBy}
 use Rattle.session.specs.Calls.{withReplayAt}
-use Rattle.streams.specs.Steps.{effectAt, leftBy, sentAs, receivedAs, Readable}
+use Rattle.streams.specs.Steps.{effectAt, leftBy, sentAs, receivedAs}
 
 -- ---- the effect
 

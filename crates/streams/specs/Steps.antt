@@ -1,20 +1,16 @@
 -- What a packet call does behind its front.
-use mathlib.Core.Path.{_≡_}
 use mathlib.Core.List.{List, _++_}
-use Prim.Native.Nat.{ℕ, _+_, _-_, _≤_}
-use lib.ListN.{length, take, drop}
+use Prim.Native.Nat.{ℕ, _-_}
+use lib.ListN.{take, drop}
 use Rattle.bits.specs.Refusals.{numberOf}
 use Rattle.memory.specs.Words.{word}
-use Rattle.rtp_header.specs.declared.header.Header.the-variants.{Read}
-use Rattle.rtp_header.specs.declared.header.Layout.{Layout}
 use Rattle.rtp_header.specs.Header.{ssrcOf}
 use Rattle.rtp_elements.specs.Mask.{listedIn}
 use Rattle.policies.specs.declared.policy.Way.{Way}
 use Rattle.policies.specs.declared.policy.Way.the-variants.{Sending, Receiving}
-use Rattle.policies.specs.Judging.{addedOf, judgedOf}
 use Rattle.wire.specs.Wire.{wireOf, restoreOf}
 use Rattle.session.specs.Calls.{Left, refusedWith, withReplayAt}
-use Rattle.session.specs.Memory.{policyAt, size, setupAt}
+use Rattle.session.specs.Memory.{policyAt, setupAt}
 use Rattle.session.specs.Packets.{tagLength, wireLength, Effect, refuse, give, protectIn, unprotectIn}
 use Rattle.session.specs.Records.{some}
 use Rattle.records.specs.Tracks.{recordIn}
@@ -42,10 +38,3 @@ abbrev pub leftBy : List ℕ → ℕ → List ℕ → Effect → Left
 leftBy words i buf (refuse r) = refusedWith (numberOf r) words buf
 leftBy words i buf (give m after state) =
     record { answer = record { number = 0; length = m; buffer = after }; words = withReplayAt words i state }
-
--- of what the front made sure, what the cipher needs
-pub record Readable (way : Way) (words buf : List ℕ) (n : ℕ) (h : Layout) : Type 0 where
-  pub sized : length words ≡ size
-  pub inside : n ≤ length buf
-  pub judged : judgedOf way (policyAt (word words 0)) tagLength (take n buf) ≡ Read h
-  pub room : n + addedOf way (policyAt (word words 0)) tagLength h ≤ length buf

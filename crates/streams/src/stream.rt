@@ -21,8 +21,8 @@ ghost use Rattle.policies.specs.declared.policy.Way.the-variants.{Sending, Rece
 ghost use Rattle.session.specs.Calls.{Gives};
 ghost use Rattle.session.specs.Memory.{policyAt, setupAt};
 ghost use Rattle.session.specs.Packets.{tagLength, wireLength};
-ghost use Rattle.front.specs.Opening.{Ready};
-ghost use Rattle.streams.specs.Steps.{Readable, sentAs, receivedAs, effectAt, leftBy};
+ghost use Rattle.front.specs.Opening.{Readable, Ready};
+ghost use Rattle.streams.specs.Steps.{sentAs, receivedAs, effectAt, leftBy};
 
 // The packet of n bytes at the start of the buffer, whose layout is h, protected under an index; its new length.
 fn encrypt_at(session: &[u64], index: u64, buf: &mut [u8], n: usize, h: Layout) -> usize

@@ -1,4 +1,4 @@
--- Demand 3 for callers of the exported calls: a list of calls on two memories is answered as the list of calls on the two sessions that they hold.
+-- Demand 3 for the calls on lent memory: a list of calls on two memories is answered as the list of calls on the two sessions that they hold.
 use mathlib.Core.Path.{_≡_}
 use mathlib.Core.List.{List, [], _∷_}
 use Prim.Native.Nat.{ℕ, _^_, _<_}
@@ -67,7 +67,7 @@ pub record AnswersAsSessions : Type 0 where
   pub events : (m : Memories) → Sized m → (calls : List Call) → Each Words32 calls → eventsIn m calls ≡ eventsOf (decoded m) calls
   pub sessions : (m : Memories) → Sized m → (calls : List Call) → Each Words32 calls → decoded (afterIn m calls) ≡ after (decoded m) calls
 
--- `ArrivalsFollowTheLedger`, of two memories that `delugash_make` made from equal arguments (its contract says what they decode to)
+-- `ArrivalsFollowTheLedger`, of two memories that make (`making::make::make`) made from equal arguments (its contract says what they decode to)
 unfoldable pub ArrivalsInMemory : Type 0
 ArrivalsInMemory =
     (key salt : List ℕ) (policy : ℕ) (ids : List ℕ) (m : Memories) → Sized m → decoded m ≡ justMade key salt policy ids

@@ -48,7 +48,7 @@ pub fn memories_answer_as_sessions()
     ensures { λ _. ⌜ AnswersAsSessions ⌝ }
 {}
 
-// Demand 3 for the exported calls.
+// Demand 3 for the calls on lent memory.
 pub fn arrivals_follow_the_ledger_in_memory()
     ensures { λ _. ⌜ ArrivalsInMemory ⌝ }
 {}

@@ -32,7 +32,7 @@ sub-t18 : tie.Need-sub-t18
 sub-t18 c =
     let a = c .before .before .before .before .before .before .before in
     let s = a .before .before .before .before .before in
-    omega (arith, judged-twelve _ _ _ _ _ (s .pre .inside) (s .pre .judged))
+    omega (arith, judged-twelve _ _ _ _ _ (s .pre .readable .inside) (s .pre .readable .judged))
 
 same-length-3 : tie.Need-same-length-3
 same-length-3 c = search needs
