@@ -1,10 +1,10 @@
 // A line that asks for something: its name, and behind a colon and a space the data.
 use crate::cut::behind;
-use crate::cut::find;
 use crate::cut::first;
 use crate::hex::read_word;
 use crate::number::last_two;
 use libc::STDOUT_FILENO;
+use text::words::place_of;
 ghost use Prim.Native.Nat.{_≤_};
 ghost use lib.ListN.{length};
 
@@ -31,7 +31,7 @@ fn past(at: usize, end: usize) -> usize
 pub fn ask(line: &[u8], behind: &[u8]) -> Asked
     ensures { λ r. ⌜ (r .name ≤ length (now (line .entry))) × (r .data ≤ length (now (line .entry))) ⌝ }
 {
-    let name = find(line, 0, b':');
+    let name = place_of(line, 0, b':');
     io::write_all(STDOUT_FILENO, &line[0..name]);
     io::write_all(STDOUT_FILENO, behind);
     let numbers = last_two(&line[0..name]);

@@ -1,7 +1,7 @@
 // Bytes written as hex digits in lower case.
 use crate::cut::behind;
-use crate::cut::find;
 use text::reading::bytes;
+use text::words::place_of;
 ghost use Prim.Native.Nat.{_≤_};
 ghost use lib.ListN.{length};
 
@@ -16,7 +16,7 @@ pub fn read_word(line: &[u8], from: usize, out: &mut [u8]) -> Field
     requires { ⌜ from ≤ length (now line) ⌝ }
     ensures { λ r. ⌜ (r .length ≤ length (now (out .exit))) × (r .next ≤ length (now (line .entry))) ⌝ }
 {
-    let end = find(line, from, b' ');
+    let end = place_of(line, from, b' ');
     let read = bytes(&line[from..end], out);
     Field {
         length: read.length,

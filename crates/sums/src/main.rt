@@ -5,9 +5,9 @@ mod packets;
 
 use libc::STDIN_FILENO;
 use lines::asked::ask;
-use lines::cut::find;
 use lines::cut::first;
 use session::layout::SIZE;
+use text::words::place_of;
 
 // A sum of the numbers in a line's name and, of packets, the hex behind it. Which one it is, the first letter says: G and h ask what a receiver makes
 // of a SEQ, p and a which length fits, A which room, and i is a packet from one session to the other.
@@ -31,7 +31,7 @@ fn answer(line: &[u8], sender: &mut [u64], receiver: &mut [u64]) {
 fn run(text: &[u8], sender: &mut [u64], receiver: &mut [u64]) {
     let mut from: usize = 0;
     while from < text.len() {
-        let end = find(text, from, b'\n');
+        let end = place_of(text, from, b'\n');
         answer(&text[from..end], sender, receiver);
         from = end + 1;
     }

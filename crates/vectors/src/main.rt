@@ -5,8 +5,8 @@ use cipher_vectors::hashes;
 use extension_vectors::extensions;
 use libc::STDIN_FILENO;
 use lines::asked::take_apart;
-use lines::cut::find;
 use packet_vectors::packets;
+use text::words::place_of;
 
 // A vector of up to three words of hex. What they are for, the first letter of the word behind the name says: aes, sha1, repeated, hmac, keystream,
 // derived, pad, mask, element, cryptex or both. `number` is the last one in the name.
@@ -48,7 +48,7 @@ fn take(line: &[u8], a: &mut [u8], b: &mut [u8], c: &mut [u8]) {
 fn run(text: &[u8], a: &mut [u8], b: &mut [u8], c: &mut [u8]) {
     let mut from: usize = 0;
     while from < text.len() {
-        let end = find(text, from, b'\n');
+        let end = place_of(text, from, b'\n');
         take(&text[from..end], a, b, c);
         from = end + 1;
     }
