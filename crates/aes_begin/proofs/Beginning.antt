@@ -1,15 +1,15 @@
--- The first two rounds from what their blocks have in common: the missing bytes are added last.
-use mathlib.Core.Path.{_≡_, sym, ap, ap₂, subst, _∙_}
+-- The first two rounds from what their states have in common: the missing bytes are added last.
+use mathlib.Core.Path.{_≡_, sym, ap, subst, _∙_}
 use mathlib.Core.List.{List, [], _∷_}
 use Prim.Native.Nat.{ℕ}
-use lib.ListN.{length, getD}
+use lib.ListN.{getD}
 use Rattle.bits.specs.Xor.{_⊕_, xorList}
-use Rattle.bits.proofs.Lists.{tabulated}
 use Rattle.aes_begin.specs.declared.begin.Begun.{Begun}
-use Rattle.aes_tables.specs.Cipher.{sboxOf, at, mixColumn, addRoundKey, roundOf, roundsOf}
+use Rattle.aes_tables.specs.Cipher.{sboxOf, at, mixColumn, roundOf}
 use Rattle.aes_tables.specs.Tables.{unpackOf, row0Of, row1Of, row2Of, row3Of}
 use Rattle.aes_shared.specs.Shared.{keyWord, FirstColumns, SecondColumns}
-use Rattle.aes_begin.specs.Steps.{endingOf, Begins}
+use Rattle.aes_begin.specs.Steps.{Begins}
+use Rattle.aes_tables.proofs.Rounds.{round-is}
 use Rattle.aes_tables.proofs.Words.{cons4}
 use Rattle.aes_columns.proofs.Sums.{swap, order2, order01, order03, order23, order12, column}
 
@@ -32,92 +32,66 @@ module _ (a b c d : ℕ) (k : List (List ℕ)) (j : ℕ) where
   last12 : xorList (xorList (xorList (xorList (row0Of a) (row3Of d)) (keyWord k j)) (row1Of b)) (row2Of c) ≡ xorList (mixColumn a b c d) (getD k j [])
   last12 = column (λ a b c d k. a ⊕ d ⊕ k ⊕ b ⊕ c) order12 a b c d (getD k j [])
 
--- ---- two rounds
+-- ---- the first round, of a state that was begun
 
--- The columns that the code adds up: p and q after the first round, then four after the second.
-pub record Added (ks : List (List (List ℕ))) (b : Begun) (x y : ℕ) (p q e f g h : List ℕ) : Type 0 where
-  pub is-p : p ≡ xorList (unpackOf (getD (b .first) 0 0)) (row3Of (sboxOf (y ⊕ at (getD ks 0 []) 3 3)))
-  pub is-q : q ≡ xorList (unpackOf (getD (b .first) 1 0)) (row2Of (sboxOf (x ⊕ at (getD ks 0 []) 2 3)))
-  pub is-e : e ≡ xorList (xorList (row0Of (sboxOf (getD p 0 0))) (row1Of (sboxOf (getD q 1 0)))) (unpackOf (getD (b .second) 0 0))
-  pub is-f : f ≡ xorList (xorList (row0Of (sboxOf (getD q 0 0))) (unpackOf (getD (b .second) 1 0))) (row3Of (sboxOf (getD p 3 0)))
-  pub is-g : g ≡ xorList (xorList (unpackOf (getD (b .second) 2 0)) (row2Of (sboxOf (getD p 2 0)))) (row3Of (sboxOf (getD q 3 0)))
-  pub is-h : h ≡ xorList (xorList (unpackOf (getD (b .second) 3 0)) (row1Of (sboxOf (getD p 1 0)))) (row2Of (sboxOf (getD q 2 0)))
+module _ (s k l : List (List ℕ)) (b : Begun) (h : Begins s k l b) where
+  pub after-first : (p q : List ℕ)
+      → p ≡ xorList (unpackOf (getD (b .first) 0 0)) (row3Of (sboxOf (at s 3 3)))
+      → q ≡ xorList (unpackOf (getD (b .first) 1 0)) (row2Of (sboxOf (at s 2 3)))
+      → p ∷ q ∷ b .column2 ∷ b .column3 ∷ [] ≡ roundOf s k
+  after-first p q ep eq =
+      let e = round-is s k in
+      cons4
+      (ep ∙ ap (λ (x : List ℕ). xorList x (row3Of (sboxOf (at s 3 3)))) (h .first .column0)
+      ∙ last3 (sboxOf (at s 0 0)) (sboxOf (at s 1 1)) (sboxOf (at s 2 2)) (sboxOf (at s 3 3)) k 0)
+      (eq ∙ ap (λ (x : List ℕ). xorList x (row2Of (sboxOf (at s 2 3)))) (h .first .column1)
+      ∙ last2 (sboxOf (at s 0 1)) (sboxOf (at s 1 2)) (sboxOf (at s 2 3)) (sboxOf (at s 3 0)) k 1)
+      (h .column2 ∙ ap (λ (x : List (List ℕ)). getD x 2 []) e)
+      (h .column3 ∙ ap (λ (x : List (List ℕ)). getD x 3 []) e)
+      ∙ sym e
 
-module _ (ks : List (List (List ℕ))) (block : List (List ℕ)) (b : Begun) (x y : ℕ) (begun : Begins ks block b)
-    (p q e f g h : List ℕ) (added : Added ks b x y p q e f g h) where
-  abbrev s : List (List ℕ)
-  s = addRoundKey (endingOf block x y) (getD ks 0 [])
+-- ---- the second round, of the state t
 
-  abbrev t : List (List ℕ)
-  t = roundOf s (getD ks 1 [])
+-- columns 2 and 3 of the state that the first round has left are those that were begun
+pub left : (s k t l : List (List ℕ)) (b : Begun) → t ≡ roundOf s k → Begins s k l b → SecondColumns (getD t 2 []) (getD t 3 []) l (b .second)
+left s k t l b e h =
+    subst (λ (u : List ℕ). SecondColumns u (getD t 3 []) l (b .second)) (h .column2 ∙ ap (λ (x : List (List ℕ)). getD x 2 []) (sym e))
+    (subst (λ (v : List ℕ). SecondColumns (b .column2) v l (b .second)) (h .column3 ∙ ap (λ (x : List (List ℕ)). getD x 3 []) (sym e)) (h .second))
 
-  p-is : p ≡ getD t 0 []
-  unfolding Begins roundOf
-  p-is =
-      added .is-p ∙ ap (λ (l : List ℕ). xorList l (row3Of (sboxOf (at s 3 3)))) (begun .0 .column0)
-      ∙ last3 (sboxOf (at s 0 0)) (sboxOf (at s 1 1)) (sboxOf (at s 2 2)) (sboxOf (at s 3 3)) (getD ks 1 []) 0
+-- The columns that the code adds up.
+pub record Added (b : Begun) (t : List (List ℕ)) (c d e f : List ℕ) : Type 0 where
+  pub is-c : c ≡ xorList (xorList (row0Of (sboxOf (at t 0 0))) (row1Of (sboxOf (at t 1 1)))) (unpackOf (getD (b .second) 0 0))
+  pub is-d : d ≡ xorList (xorList (row0Of (sboxOf (at t 0 1))) (unpackOf (getD (b .second) 1 0))) (row3Of (sboxOf (at t 3 0)))
+  pub is-e : e ≡ xorList (xorList (unpackOf (getD (b .second) 2 0)) (row2Of (sboxOf (at t 2 0)))) (row3Of (sboxOf (at t 3 1)))
+  pub is-f : f ≡ xorList (xorList (unpackOf (getD (b .second) 3 0)) (row1Of (sboxOf (at t 1 0)))) (row2Of (sboxOf (at t 2 1)))
 
-  q-is : q ≡ getD t 1 []
-  unfolding Begins roundOf
-  q-is =
-      added .is-q ∙ ap (λ (l : List ℕ). xorList l (row2Of (sboxOf (at s 2 3)))) (begun .0 .column1)
-      ∙ last2 (sboxOf (at s 0 1)) (sboxOf (at s 1 2)) (sboxOf (at s 2 3)) (sboxOf (at s 3 0)) (getD ks 1 []) 1
+module _ (t l : List (List ℕ)) (b : Begun) (h : SecondColumns (getD t 2 []) (getD t 3 []) l (b .second)) (c d e f : List ℕ) (added : Added b t c d e f) where
+  pub after-second : c ∷ d ∷ e ∷ f ∷ [] ≡ roundOf t l
+  after-second =
+      cons4
+      (added .is-c ∙ ap (λ (x : List ℕ). xorList (xorList (row0Of (sboxOf (at t 0 0))) (row1Of (sboxOf (at t 1 1)))) x) (h .column0)
+      ∙ last01 (sboxOf (at t 0 0)) (sboxOf (at t 1 1)) (sboxOf (at t 2 2)) (sboxOf (at t 3 3)) l 0)
+      (added .is-d ∙ ap (λ (x : List ℕ). xorList (xorList (row0Of (sboxOf (at t 0 1))) x) (row3Of (sboxOf (at t 3 0)))) (h .column1)
+      ∙ last03 (sboxOf (at t 0 1)) (sboxOf (at t 1 2)) (sboxOf (at t 2 3)) (sboxOf (at t 3 0)) l 1)
+      (added .is-e ∙ ap (λ (x : List ℕ). xorList (xorList x (row2Of (sboxOf (at t 2 0)))) (row3Of (sboxOf (at t 3 1)))) (h .column2)
+      ∙ last23 (sboxOf (at t 0 2)) (sboxOf (at t 1 3)) (sboxOf (at t 2 0)) (sboxOf (at t 3 1)) l 2)
+      (added .is-f ∙ ap (λ (x : List ℕ). xorList (xorList x (row1Of (sboxOf (at t 1 0)))) (row2Of (sboxOf (at t 2 1)))) (h .column3)
+      ∙ last12 (sboxOf (at t 0 3)) (sboxOf (at t 1 0)) (sboxOf (at t 2 1)) (sboxOf (at t 3 2)) l 3)
+      ∙ sym (round-is t l)
 
-  -- a byte of p or q is the byte of the state after the first round
-  from-p : (r : ℕ) → sboxOf (getD p r 0) ≡ sboxOf (at t r 0)
-  from-p r = ap (λ (l : List ℕ). sboxOf (getD l r 0)) p-is
+-- ---- the last two bytes do not matter
 
-  from-q : (r : ℕ) → sboxOf (getD q r 0) ≡ sboxOf (at t r 1)
-  from-q r = ap (λ (l : List ℕ). sboxOf (getD l r 0)) q-is
+-- a state with x and y for its last two bytes
+abbrev pub endingOf : List (List ℕ) → ℕ → ℕ → List (List ℕ)
+endingOf s x y = getD s 0 [] ∷ getD s 1 [] ∷ getD s 2 [] ∷ (at s 0 3 ∷ at s 1 3 ∷ x ∷ y ∷ []) ∷ []
 
-  e-is : e ≡ getD (roundOf t (getD ks 2 [])) 0 []
-  unfolding Begins roundOf
-  e-is =
-      added .is-e
-      ∙ ap₂ (λ (m n : ℕ). xorList (xorList (row0Of m) (row1Of n)) (unpackOf (getD (b .second) 0 0))) (from-p 0) (from-q 1)
-      ∙ ap (λ (l : List ℕ). xorList (xorList (row0Of (sboxOf (at t 0 0))) (row1Of (sboxOf (at t 1 1)))) l) (begun .1 .column0)
-      ∙ last01 (sboxOf (at t 0 0)) (sboxOf (at t 1 1)) (sboxOf (at t 2 2)) (sboxOf (at t 3 3)) (getD ks 2 []) 0
-
-  f-is : f ≡ getD (roundOf t (getD ks 2 [])) 1 []
-  unfolding Begins roundOf
-  f-is =
-      added .is-f
-      ∙ ap₂ (λ (m n : ℕ). xorList (xorList (row0Of m) (unpackOf (getD (b .second) 1 0))) (row3Of n)) (from-q 0) (from-p 3)
-      ∙ ap (λ (l : List ℕ). xorList (xorList (row0Of (sboxOf (at t 0 1))) l) (row3Of (sboxOf (at t 3 0)))) (begun .1 .column1)
-      ∙ last03 (sboxOf (at t 0 1)) (sboxOf (at t 1 2)) (sboxOf (at t 2 3)) (sboxOf (at t 3 0)) (getD ks 2 []) 1
-
-  g-is : g ≡ getD (roundOf t (getD ks 2 [])) 2 []
-  unfolding Begins roundOf
-  g-is =
-      added .is-g
-      ∙ ap₂ (λ (m n : ℕ). xorList (xorList (unpackOf (getD (b .second) 2 0)) (row2Of m)) (row3Of n)) (from-p 2) (from-q 3)
-      ∙ ap (λ (l : List ℕ). xorList (xorList l (row2Of (sboxOf (at t 2 0)))) (row3Of (sboxOf (at t 3 1)))) (begun .1 .column2)
-      ∙ last23 (sboxOf (at t 0 2)) (sboxOf (at t 1 3)) (sboxOf (at t 2 0)) (sboxOf (at t 3 1)) (getD ks 2 []) 2
-
-  h-is : h ≡ getD (roundOf t (getD ks 2 [])) 3 []
-  unfolding Begins roundOf
-  h-is =
-      added .is-h
-      ∙ ap₂ (λ (m n : ℕ). xorList (xorList (unpackOf (getD (b .second) 3 0)) (row1Of m)) (row2Of n)) (from-p 1) (from-q 2)
-      ∙ ap (λ (l : List ℕ). xorList (xorList l (row1Of (sboxOf (at t 1 0)))) (row2Of (sboxOf (at t 2 1)))) (begun .1 .column3)
-      ∙ last12 (sboxOf (at t 0 3)) (sboxOf (at t 1 0)) (sboxOf (at t 2 1)) (sboxOf (at t 3 2)) (getD ks 2 []) 3
-
-  pub two : e ∷ f ∷ g ∷ h ∷ [] ≡ roundsOf s ks 2
-  unfolding roundsOf roundOf
-  two = cons4 e-is f-is g-is h-is
-
--- what the code makes for a block
-pub began : (ks : List (List (List ℕ))) (block s w : List (List ℕ)) (f g : List ℕ) → s ≡ addRoundKey (endingOf block 0 0) (getD ks 0 [])
-    → FirstColumns s (getD ks 1 []) f → w ≡ getD (roundOf s (getD ks 1 [])) 2 [] ∷ getD (roundOf s (getD ks 1 [])) 3 [] ∷ []
-    → SecondColumns (getD w 0 []) (getD w 1 []) (getD ks 2 []) g → Begins ks block (record { first = f; second = g })
-unfolding Begins
-began ks block s w f g es cf ew cg =
-    let k = getD ks 1 [] in (
-      subst (λ (x : List (List ℕ)). FirstColumns x k f) es cf,
-      subst (λ (x : List (List ℕ)). SecondColumns (getD x 0 []) (getD x 1 []) (getD ks 2 []) g)
-          (ew ∙ ap (λ (x : List (List ℕ)). getD (roundOf x k) 2 [] ∷ getD (roundOf x k) 3 [] ∷ []) es) cg,
-    )
-
--- a block ends with its own last bytes
-pub ends : (block : List (List ℕ)) (x y : ℕ) → length block ≡ 4 → getD block 3 [] ≡ at block 0 3 ∷ at block 1 3 ∷ x ∷ y ∷ [] → endingOf block x y ≡ block
-ends block x y m e = ap (λ (l : List ℕ). getD block 0 [] ∷ getD block 1 [] ∷ getD block 2 [] ∷ l ∷ []) (sym e) ∙ tabulated [] 4 block m
+pub alike : (s k l : List (List ℕ)) (b : Begun) (x y : ℕ) → Begins s k l b → Begins (endingOf s x y) k l b
+alike s k l b x y h =
+    let e = round-is s k in
+    let f = sym (round-is (endingOf s x y) k) in
+    record {
+      first = record { column0 = h .first .column0; column1 = h .first .column1 };
+      column2 = h .column2 ∙ ap (λ (z : List (List ℕ)). getD z 2 []) e ∙ ap (λ (z : List (List ℕ)). getD z 2 []) f;
+      column3 = h .column3 ∙ ap (λ (z : List (List ℕ)). getD z 3 []) e ∙ ap (λ (z : List (List ℕ)). getD z 3 []) f;
+      second = h .second;
+    }

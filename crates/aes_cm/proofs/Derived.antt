@@ -1,9 +1,7 @@
 -- Derived keys: the keystream onto zeros, over the length.
 use mathlib.Core.Path.{_≡_, refl, ap, ap₂, _∙_}
 use mathlib.Core.List.{List, _∷_}
-use Prim.Native.Nat.{ℕ, zero, suc, _+_, _-_}
-use native.Mathlib.Omega.{arith}
-use borrow.Author.Tests.{le-ltb}
+use Prim.Native.Nat.{ℕ, zero, suc}
 use lib.Bits.{xor-zero-l}
 use lib.ListN.{length, replicate}
 use Rattle.bits.specs.Lists.{tabulate}
@@ -13,15 +11,11 @@ use Rattle.aes_cm.specs.declared.derivation.SessionKeys.{SessionKeys}
 use Rattle.aes_counter.specs.Keystream.{keystreamOf}
 use Rattle.aes_cm.specs.Portion.{portionPad}
 use Rattle.aes_cm.specs.Derivation.{saltFor, derivedOf}
+use Rattle.aes_cm.proofs.Portions.{whole}
 
 onto-zeros : (n : ℕ) (pad : ℕ → ℕ) → xorPad pad (replicate n 0) ≡ tabulate n pad
 onto-zeros zero pad = refl
 onto-zeros (suc n) pad = ap₂ (λ (a : ℕ) (l : List ℕ). a ∷ l) (xor-zero-l (pad 0)) (onto-zeros n (λ i. pad (suc i)))
-
--- a portion without a gap, from the first byte on
-whole : (stream : ℕ → ℕ) (i : ℕ) → portionPad 0 0 0 stream i ≡ stream i
-unfolding portionPad
-whole stream i = let e : 0 - 0 + (i - 0) ≡ i = omega arith in simp (le-ltb i 0 (omega arith), e)
 
 pub derived-is : (key salt : List ℕ) (label : ℕ) (l m : List ℕ) → l ≡ replicate (length l) 0
     → m ≡ xorPad (portionPad 0 0 0 (keystreamOf key (saltFor salt label) 0 0)) l → m ≡ derivedOf key salt label (length l)

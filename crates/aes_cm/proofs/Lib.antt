@@ -1,2 +1,3 @@
+pub mod Portions
 pub mod Streams
 pub mod Derived

@@ -1,8 +1,8 @@
 // The keystream of a packet onto a portion with a gap, which runs to the end of the buffer.
-use aes_begin::begin::begin;
+use aes::blocks::Start;
+use aes::blocks::round_keys;
+use aes::blocks::start_at;
 use aes_counter::counter::iv;
-use aes_counter::counter::state;
-use aes_keys::key_schedule::expand;
 use aes_keystream::keystream::Keystream;
 use aes_keystream::keystream::xor_stretch;
 use aes_tables::tables;
@@ -10,7 +10,7 @@ ghost use mathlib.Core.Path.{_≡_};
 ghost use Prim.Native.Nat.{_^_, _≤_, _<_};
 ghost use lib.ListN.{length};
 ghost use Rattle.bits.specs.Xor.{xorPad};
-ghost use Rattle.aes_tables.specs.Tables.{SboxTable, RoundTable};
+ghost use Rattle.aes.specs.Blocks.{byteFrom, Lent, Started};
 ghost use Rattle.aes_counter.specs.Keystream.{keystreamOf};
 ghost use Rattle.aes_cm.specs.Portion.{portionPad};
 
@@ -19,33 +19,28 @@ ghost use Rattle.aes_cm.specs.Portion.{portionPad};
 fn portion_by(
     sbox: &[u8; 256],
     table: &[u8; 2048],
-    key: [u8; 16],
-    salt: [u8; 14],
-    ssrc: u32,
-    index: u64,
+    keys: &[[[u8; 4]; 4]; 11],
+    start: Start,
     buf: &mut [u8],
     first: usize,
     stop: usize,
     rest: usize,
 )
-    requires { ⌜ SboxTable (now sbox) ⌝ }
-    requires { ⌜ RoundTable (now table) ⌝ }
-    requires { ⌜ (index < 2 ^ 48) × ((first ≤ stop) × ((stop ≤ rest) × ((rest ≤ length (now buf)) × (length (now buf) ≤ 2 ^ 20)))) ⌝ }
-    ensures { λ _. ⌜ now (buf .exit) ≡ xorPad (portionPad first stop rest (keystreamOf key salt ssrc index)) (now (buf .entry)) ⌝ }
+    requires { ⌜ Lent (now sbox) (now table) (now keys) (start .key) ⌝ }
+    requires { ⌜ Started start ⌝ }
+    requires { ⌜ (first ≤ stop) × ((stop ≤ rest) × ((rest ≤ length (now buf)) × (length (now buf) ≤ 2 ^ 20))) ⌝ }
+    ensures { λ _. ⌜ now (buf .exit) ≡ xorPad (portionPad first stop rest (byteFrom (start .key) (start .block))) (now (buf .entry)) ⌝ }
 {
-    let keys = expand(sbox, state(key));
-    let v = iv(salt, ssrc, index);
-    let begun = begin(table, &keys, v);
     let n = buf.len();
     let s = Keystream {
         block: [0u8; 16],
         at: 0,
     };
-    let t = xor_stretch(sbox, table, &keys, begun, buf, first, stop, s);
-    xor_stretch(sbox, table, &keys, begun, buf, rest, n, t);
+    let t = xor_stretch(sbox, table, keys, start, buf, first, stop, s);
+    xor_stretch(sbox, table, keys, start, buf, rest, n, t);
 }
 
-// The same where one keystream is all that is needed: the tables are made here.
+// The same by key, salt, SSRC and index: the tables are made here.
 pub fn xor_portion(
     key: [u8; 16],
     salt: [u8; 14],
@@ -61,18 +56,9 @@ pub fn xor_portion(
 {
     let sbox = tables::sbox();
     let table = tables::round_table();
-    portion_by(
-        &sbox,
-        &table,
-        key,
-        salt,
-        ssrc,
-        index,
-        buf,
-        first,
-        stop,
-        rest,
-    );
+    let keys = round_keys(&sbox, key);
+    let start = start_at(&sbox, &table, &keys, key, iv(salt, ssrc, index));
+    portion_by(&sbox, &table, &keys, start, buf, first, stop, rest);
 }
 
 // Two keystreams of one packet: that of the header key and salt onto all of `header`, and that of `key` and `salt` onto `buf` from byte `rest` on.
@@ -95,17 +81,16 @@ pub fn xor_two(
 {
     let sbox = tables::sbox();
     let table = tables::round_table();
-    portion_by(
+    let header_keys = round_keys(&sbox, header_key);
+    let header_start = start_at(
         &sbox,
         &table,
+        &header_keys,
         header_key,
-        header_salt,
-        ssrc,
-        index,
-        header,
-        0,
-        0,
-        0,
+        iv(header_salt, ssrc, index),
     );
-    portion_by(&sbox, &table, key, salt, ssrc, index, buf, rest, rest, rest);
+    portion_by(&sbox, &table, &header_keys, header_start, header, 0, 0, 0);
+    let keys = round_keys(&sbox, key);
+    let start = start_at(&sbox, &table, &keys, key, iv(salt, ssrc, index));
+    portion_by(&sbox, &table, &keys, start, buf, rest, rest, rest);
 }

@@ -1,8 +1,8 @@
--- The counter block, byte by byte.
+-- The counter block, byte by byte, and the keystream from the first one.
 use mathlib.Core.Path.{_≡_, sym, ap, ap₂, _∙_}
 use mathlib.Core.List.{List, [], _∷_, _++_}
-use Prim.Native.Nat.{ℕ, _+_, _*_, _^_, _<_}
-use native.Mathlib.Nat.{zero-mul, zero-add, div-one}
+use Prim.Native.Nat.{ℕ, _+_, _*_, _/_, _%_, _^_, _<_}
+use native.Mathlib.Nat.{zero-mul, zero-add}
 use native.Mathlib.Omega.{arith}
 use lib.Bits.{xor-zero-r}
 use lib.Dec.{T}
@@ -14,8 +14,9 @@ use Rattle.bits.specs.Xor.{_⊕_, xorList}
 use Rattle.bits.proofs.BigEndian.{to-append, to-from}
 use Rattle.bits.proofs.Lists.{tabulated}
 use Rattle.bits.proofs.Xor.{xor-shift, to-xor}
-use Rattle.aes_counter.specs.Keystream.{stateOf, ivOf, counterOf}
-use Rattle.aes_counter.specs.Blocks.{numberedOf}
+use Rattle.aes.specs.Blocks.{numberedOf, blockFrom, byteFrom}
+use Rattle.aes.proofs.Borders.{block-of, byte-of}
+use Rattle.aes_counter.specs.Keystream.{ivOf, counterOf, blockOf, keystreamOf}
 
 -- a number with zero bytes above it
 low-bytes : (m n y : ℕ) → y < 2 ^ (8 * n) → toBytes (m + n) y ≡ toBytes m 0 ++ toBytes n y
@@ -56,18 +57,26 @@ module _ (salt : List ℕ) (ssrc i j : ℕ) (n : length salt ≡ 14) (b : T (are
 
 -- as the code makes the first one
 pub iv-is : (salt q i8 : List ℕ) (ssrc i : ℕ) → length salt ≡ 14 → T (areBytes salt) → ssrc < 2 ^ 32 → i < 2 ^ 48 → q ≡ toBytes 4 ssrc → i8 ≡ toBytes 8 i
-    → (getD salt 0 0 ∷ getD salt 1 0 ∷ getD salt 2 0 ∷ getD salt 3 0 ∷ [])
-    ∷ (getD salt 4 0 ⊕ getD q 0 0 ∷ getD salt 5 0 ⊕ getD q 1 0 ∷ getD salt 6 0 ⊕ getD q 2 0 ∷ getD salt 7 0 ⊕ getD q 3 0 ∷ [])
-    ∷ (getD salt 8 0 ⊕ getD i8 2 0 ∷ getD salt 9 0 ⊕ getD i8 3 0 ∷ getD salt 10 0 ⊕ getD i8 4 0 ∷ getD salt 11 0 ⊕ getD i8 5 0 ∷ [])
-    ∷ (getD salt 12 0 ⊕ getD i8 6 0 ∷ getD salt 13 0 ⊕ getD i8 7 0 ∷ 0 ∷ 0 ∷ [])
-    ∷ []
-    ≡ stateOf (counterOf salt ssrc i 0)
-iv-is salt q i8 ssrc i n b hq hi eq ei = rw (eq, ei) (sym (ap stateOf (counter-is salt ssrc i 0 n b hq hi (omega arith))))
+    → getD salt 0 0 ∷ getD salt 1 0 ∷ getD salt 2 0 ∷ getD salt 3 0
+    ∷ getD salt 4 0 ⊕ getD q 0 0 ∷ getD salt 5 0 ⊕ getD q 1 0 ∷ getD salt 6 0 ⊕ getD q 2 0 ∷ getD salt 7 0 ⊕ getD q 3 0
+    ∷ getD salt 8 0 ⊕ getD i8 2 0 ∷ getD salt 9 0 ⊕ getD i8 3 0 ∷ getD salt 10 0 ⊕ getD i8 4 0 ∷ getD salt 11 0 ⊕ getD i8 5 0
+    ∷ getD salt 12 0 ⊕ getD i8 6 0 ∷ getD salt 13 0 ⊕ getD i8 7 0 ∷ 0 ∷ 0 ∷ []
+    ≡ counterOf salt ssrc i 0
+iv-is salt q i8 ssrc i n b hq hi eq ei = rw (eq, ei) (sym (counter-is salt ssrc i 0 n b hq hi (omega arith)))
 
--- block j's differs from the first in the last two bytes, which are its number
-pub numbered : (salt : List ℕ) (ssrc i j : ℕ) → length salt ≡ 14 → T (areBytes salt) → ssrc < 2 ^ 32 → i < 2 ^ 48 → j < 2 ^ 16
-    → numberedOf (stateOf (counterOf salt ssrc i 0)) j ≡ stateOf (counterOf salt ssrc i j)
-numbered salt ssrc i j n b hq hi hj =
-    ap (λ (l : List ℕ). numberedOf (stateOf l) j) (counter-is salt ssrc i 0 n b hq hi (omega arith))
-    ∙ (simp div-one)
-    ∙ sym (ap stateOf (counter-is salt ssrc i j n b hq hi hj))
+-- ---- the keystream, by the cipher's blocks from the first counter block
+
+module _ (key salt : List ℕ) (ssrc i : ℕ) (n : length salt ≡ 14) (b : T (areBytes salt)) (hq : ssrc < 2 ^ 32) (hi : i < 2 ^ 48) where
+  -- block j's counter differs from the first in the last two bytes, which are its number
+  numbered : (j : ℕ) → j < 2 ^ 16 → numberedOf (counterOf salt ssrc i 0) j ≡ counterOf salt ssrc i j
+  numbered j hj =
+      ap (λ (l : List ℕ). numberedOf l j) (counter-is salt ssrc i 0 n b hq hi (omega arith))
+      ∙ sym (counter-is salt ssrc i j n b hq hi hj)
+
+  block-is : (j : ℕ) → j < 2 ^ 16 → blockFrom key (counterOf salt ssrc i 0) j ≡ blockOf key salt ssrc i j
+  unfolding blockOf
+  block-is j h = block-of key (counterOf salt ssrc i 0) (counterOf salt ssrc i j) j (numbered j h)
+
+  pub byte-is : (k : ℕ) → k < 2 ^ 20 → byteFrom key (counterOf salt ssrc i 0) k ≡ keystreamOf key salt ssrc i k
+  unfolding keystreamOf
+  byte-is k h = byte-of key (counterOf salt ssrc i 0) k ∙ ap (λ (l : List ℕ). getD l (k % 16) 0) (block-is (k / 16) (omega arith))

@@ -1,18 +1,11 @@
 -- RFC 3711, section 4.1.1: the keystream of AES in counter mode. Keys, salts and blocks are lists of bytes.
-use mathlib.Core.List.{List, []}
+use mathlib.Core.List.{List}
 use Prim.Native.Nat.{ℕ, _+_, _*_, _/_, _%_, _^_}
 use lib.ListN.{getD}
 use Rattle.bits.specs.BigEndian.{fromBytes, toBytes}
-use Rattle.bits.specs.Lists.{tabulate}
 use Rattle.bits.specs.Xor.{_⊕_}
+use Rattle.aes_tables.specs.Cipher.{stateOf, bytesOf}
 use Rattle.aes_tables.specs.Keys.{aes128Of}
-
--- sixteen bytes as a state of four columns, and back (FIPS 197, 3.4); a key as its four words likewise (5.2)
-abbrev pub stateOf : List ℕ → List (List ℕ)
-stateOf b = tabulate 4 (λ c. tabulate 4 (λ r. getD b (4 * c + r) 0))
-
-abbrev pub bytesOf : List (List ℕ) → List ℕ
-bytesOf s = tabulate 16 (λ k. getD (getD s (k / 4) []) (k % 4) 0)
 
 -- IV = (k_s * 2^16) XOR (SSRC * 2^64) XOR (i * 2^16), with the salt k_s of 14 bytes, the SSRC below 2^32 and the packet index i below 2^48
 unfoldable pub ivOf : List ℕ → ℕ → ℕ → ℕ

@@ -1,2 +1,1 @@
 pub mod Keystream
-pub mod Blocks

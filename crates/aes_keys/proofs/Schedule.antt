@@ -9,15 +9,21 @@ use native.Mathlib.Omega.{arith}
 use borrow.Author.Tests.{eq-eqb, ne-eqb}
 use lib.ListN.{length, getD, length-append, List·getD-append}
 use lib.Seq.{getD-at}
+use Rattle.bits.specs.Lists.{tabulate}
 use Rattle.bits.specs.Pick.{pick}
 use Rattle.bits.specs.Xor.{xorList}
 use Rattle.bits.proofs.Lists.{tabulated}
 use Rattle.aes_tables.specs.Keys.{subWord, rotWord, powX, rcon, tempOf, wordOf, wordsOf, roundKeyOf, roundKeysOf}
 use Rattle.aes_keys.specs.NextKey.{nextKeyOf}
+use Rattle.aes_tables.proofs.Rounds.{words-none, words-next, powers}
 use Rattle.aes_tables.proofs.Words.{cons4}
 
 pub cons : {A : Type 0} {x y : A} {l m : List A} → x ≡ y → l ≡ m → x ∷ l ≡ y ∷ m
 cons e f = cc
+
+-- the code's numbers are the powers of x
+pub power : (j : ℕ) → getD (0x01 ∷ 0x02 ∷ 0x04 ∷ 0x08 ∷ 0x10 ∷ 0x20 ∷ 0x40 ∷ 0x80 ∷ 0x1b ∷ 0x36 ∷ []) j 0 ≡ getD (tabulate 10 powX) j 0
+power j = ap (λ (l : List ℕ). getD l j 0) (sym powers)
 
 -- the code's words are those of the next round key
 pub next-key : (k : List (List ℕ)) (x : ℕ) (s t a b c d : List ℕ) → s ≡ subWord (rotWord (getD k 3 [])) → t ≡ xorList s (x ∷ 0 ∷ 0 ∷ 0 ∷ [])
@@ -33,25 +39,25 @@ next-key k x s t a b c d es et ea eb ec ed =
 
 module _ (key : List (List ℕ)) (four : length key ≡ 4) where
   length-words : (n : ℕ) → length (wordsOf key n) ≡ n + 4
-  unfolding wordsOf
-  length-words zero = omega arith
+  length-words zero = ap length (words-none key) ∙ four
   length-words (suc n) =
-      length-append (wordsOf key n) (wordOf (wordsOf key n) (n + 4) ∷ []) ∙ (let e = length-words n in omega arith)
+      ap length (words-next key n)
+      ∙ length-append (wordsOf key n) (wordOf (wordsOf key n) (n + 4) ∷ []) ∙ (let e = length-words n in omega arith)
 
   -- a further word leaves those before it
   kept : (n i : ℕ) → i < n + 4 → getD (wordsOf key (suc n)) i [] ≡ getD (wordsOf key n) i []
-  unfolding wordsOf
   kept n i h =
-      List·getD-append (wordsOf key n) (wordOf (wordsOf key n) (n + 4) ∷ []) [] i (let e = length-words n in omega arith)
+      ap (λ (l : List (List ℕ)). getD l i []) (words-next key n)
+      ∙ List·getD-append (wordsOf key n) (wordOf (wordsOf key n) (n + 4) ∷ []) [] i (let e = length-words n in omega arith)
 
   first : (n i : ℕ) → i < 4 → getD (wordsOf key n) i [] ≡ getD key i []
-  unfolding wordsOf
-  first zero i h = refl
+  first zero i h = ap (λ (l : List (List ℕ)). getD l i []) (words-none key)
   first (suc n) i h = kept n i (omega arith) ∙ first n i h
 
   new : (n : ℕ) → getD (wordsOf key (suc n)) (n + 4) [] ≡ wordOf (wordsOf key n) (n + 4)
-  unfolding wordsOf
-  new n = getD-at (wordsOf key n) (wordOf (wordsOf key n) (n + 4)) [] [] (n + 4) (length-words n)
+  new n =
+      ap (λ (l : List (List ℕ)). getD l (n + 4) []) (words-next key n)
+      ∙ getD-at (wordsOf key n) (wordOf (wordsOf key n) (n + 4)) [] [] (n + 4) (length-words n)
 
   -- the words that word i is made of are there already
   grown : (n i : ℕ) → 4 ≤ i → i < suc n + 4 → wordOf (wordsOf key n) i ≡ wordOf (wordsOf key (suc n)) i

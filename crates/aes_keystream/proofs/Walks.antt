@@ -10,7 +10,8 @@ use lib.Seq.{length-take-le}
 use Rattle.bits.specs.Xor.{xorPad}
 use Rattle.bits.proofs.Xor.{length-pad, pad-ext}
 use Rattle.aes_keystream.specs.declared.keystream.Keystream.{Keystream}
-use Rattle.aes_counter.specs.Blocks.{blockBy, byteBy}
+use Rattle.aes.specs.Blocks.{blockFrom, byteFrom}
+use Rattle.aes.proofs.Borders.{byte-of}
 use Rattle.stretches.specs.Stretch.{stretchPad}
 use Rattle.aes_keystream.specs.Steps.{spanOf, Holds, Used}
 use Rattle.stretches.proofs.Stretches.{stretch-done, stretch-part, stretch-join}
@@ -30,53 +31,28 @@ spanned from left n h e =
           let d : n ≡ 16 - from = e ∙ simp (le-ltb _ _ v) in record { fits = omega arith; within = omega arith; forward = λ p. omega arith; whole = λ p. omega arith }
     ]
 
--- where the loop stands, whatever the keystream is
-pub record Place (e : ℕ) (l₀ : List ℕ) (t₀ : Keystream) (i₀ : ℕ) (l : List ℕ) (t : Keystream) (i : ℕ) : Type 0 where
-  pub from : i₀ ≤ i
-  pub upto : i ≤ e
-  pub size : length l ≡ length l₀
-  pub at : t .at ≡ t₀ .at + (i - i₀)
-  pub next : i < e → t .at % 16 ≡ 0
-
-pub placed : (e : ℕ) (l₀ : List ℕ) (t₀ : Keystream) (i₀ : ℕ) (l : List ℕ) (t : Keystream) (i n : ℕ) (block ys : List ℕ) → e ≤ length l₀ → i < e
-    → Place e l₀ t₀ i₀ l t i → Span 0 (e - i) n → ys ≡ xorPad (λ k. getD block (0 + k) 0) (take (i + n - i) (drop i l))
-    → Place e l₀ t₀ i₀ (take i l ++ (ys ++ drop (i + n - i) (drop i l))) (record { block = block; at = t .at + n }) (i + n)
-placed e l₀ t₀ i₀ l t i n block ys he hi p s ey =
-    let stream : ℕ → ℕ = λ k. getD block k 0 in
-    let g = s .within in
-    let z = p .next hi in
-    let here = stretch-part i (i + n) 0 stream l ys (omega arith) (omega (arith, p .size)) ey in
-    record {
-      from = omega (arith, p .from);
-      upto = omega arith;
-      size = ap length here ∙ length-pad (stretchPad i (i + n) 0 stream) l ∙ p .size;
-      at = omega (arith, p .at, p .from);
-      next = λ u. let w = s .whole (omega arith) in omega arith;
-    }
-
-module _ (ks : List (List (List ℕ))) (iv : List (List ℕ)) where
+module _ (key start : List ℕ) where
   -- within a block, the keystream's bytes are the block's
-  pub in-block : (block : List ℕ) (o k : ℕ) → block ≡ blockBy ks iv (o / 16) → o % 16 + k < 16 → getD block (o % 16 + k) 0 ≡ byteBy ks iv (o + k)
-  unfolding byteBy
+  pub in-block : (block : List ℕ) (o k : ℕ) → block ≡ blockFrom key start (o / 16) → o % 16 + k < 16 → getD block (o % 16 + k) 0 ≡ byteFrom key start (o + k)
   in-block block o k e h =
       let q : (o + k) / 16 ≡ o / 16 = omega arith in
       let r : (o + k) % 16 ≡ o % 16 + k = omega arith in
       ap (λ (b : List ℕ). getD b (o % 16 + k) 0) e
-      ∙ sym (ap₂ (λ (m n : ℕ). getD (blockBy ks iv m) n 0) q r)
+      ∙ sym (byte-of key start (o + k) ∙ ap₂ (λ (m n : ℕ). getD (blockFrom key start m) n 0) q r)
 
   -- the block carried along
-  pub holds-next : (block : List ℕ) (o n : ℕ) → block ≡ blockBy ks iv (o / 16) → o % 16 + n ≤ 16 → 0 < n → Holds ks iv (record { block = block; at = o + n })
+  pub holds-next : (block : List ℕ) (o n : ℕ) → block ≡ blockFrom key start (o / 16) → o % 16 + n ≤ 16 → 0 < n → Holds key start (record { block = block; at = o + n })
   holds-next block o n e h p =
-      record { block = λ u. let q : o / 16 ≡ (o + n) / 16 = omega arith in e ∙ ap (blockBy ks iv) q }
+      record { block = λ u. let q : o / 16 ≡ (o + n) / 16 = omega arith in e ∙ ap (blockFrom key start) q }
 
   -- bytes of the block that is held
   pub held : (a e : ℕ) (l : List ℕ) (s : Keystream) (n : ℕ) (ys : List ℕ) → a < e → e ≤ length l → (s .at % 16 ≡ 0 → ⊥) → Span (s .at % 16) (e - a) n
-      → ys ≡ xorPad (λ k. getD (s .block) (s .at % 16 + k) 0) (take (a + n - a) (drop a l)) → Holds ks iv s
-      → Holds ks iv (record { block = s .block; at = s .at + n })
-      × (take a l ++ (ys ++ drop (a + n - a) (drop a l)) ≡ xorPad (stretchPad a (a + (s .at + n - s .at)) (s .at) (byteBy ks iv)) l)
+      → ys ≡ xorPad (λ k. getD (s .block) (s .at % 16 + k) 0) (take (a + n - a) (drop a l)) → Holds key start s
+      → Holds key start (record { block = s .block; at = s .at + n })
+      × (take a l ++ (ys ++ drop (a + n - a) (drop a l)) ≡ xorPad (stretchPad a (a + (s .at + n - s .at)) (s .at) (byteFrom key start)) l)
   held a e l s n ys ha he u p ey h =
       let o = s .at in
-      let stream = byteBy ks iv in
+      let stream = byteFrom key start in
       let f = p .fits in
       let g = p .within in
       let eb = h .block u in
@@ -95,16 +71,17 @@ module _ (ks : List (List (List ℕ))) (iv : List (List ℕ)) where
     pub upto : i ≤ e
     pub size : length l ≡ length l₀
     pub at : t .at ≡ t₀ .at + (i - a)
-    pub holds : Holds ks iv t
-    pub left : xorPad (stretchPad i e (t .at) (byteBy ks iv)) l ≡ xorPad (stretchPad a e (t₀ .at) (byteBy ks iv)) l₀
+    pub next : i < e → t .at % 16 ≡ 0
+    pub holds : Holds key start t
+    pub left : xorPad (stretchPad i e (t .at) (byteFrom key start)) l ≡ xorPad (stretchPad a e (t₀ .at) (byteFrom key start)) l₀
 
   pub walked : (a e : ℕ) (l₀ : List ℕ) (t₀ : Keystream) (l : List ℕ) (t : Keystream) (i n : ℕ) (block ys : List ℕ)
-      → e ≤ length l₀ → i < e → Walk a e l₀ t₀ l t i → block ≡ blockBy ks iv (t .at / 16) → Span (t .at % 16) (e - i) n
+      → e ≤ length l₀ → i < e → Walk a e l₀ t₀ l t i → block ≡ blockFrom key start (t .at / 16) → Span (t .at % 16) (e - i) n
       → ys ≡ xorPad (λ k. getD block (t .at % 16 + k) 0) (take (i + n - i) (drop i l))
       → Walk a e l₀ t₀ (take i l ++ (ys ++ drop (i + n - i) (drop i l))) (record { block = block; at = t .at + n }) (i + n)
   walked a e l₀ t₀ l t i n block ys he hi w eb s ey =
       let o = t .at in
-      let stream = byteBy ks iv in
+      let stream = byteFrom key start in
       let part = take (i + n - i) (drop i l) in
       let f = s .fits in
       let g = s .within in
@@ -119,25 +96,27 @@ module _ (ks : List (List (List ℕ))) (iv : List (List ℕ)) where
         upto = omega arith;
         size = ap length here ∙ length-pad (stretchPad i (i + n) o stream) l ∙ w .size;
         at = omega (arith, w .at, w .from);
+        next = λ u. let v = s .whole (omega arith) in omega arith;
         holds = holds-next block o n eb (s .fits) (s .forward (omega arith));
         left = ap (xorPad (stretchPad (i + n) e (o + n) stream)) here ∙ stretch-join i (i + n) e o (o + n) stream l (omega arith) (omega arith) (omega arith) ∙ w .left;
       }
 
 -- a block from its first byte on
-pub followed : (ks : List (List (List ℕ))) (iv : List (List ℕ)) (e : ℕ) (l₀ : List ℕ) (t₀ : Keystream) (i₀ : ℕ) (l : List ℕ) (t : Keystream) (i n : ℕ) (block ys : List ℕ)
-    → e ≤ length l₀ → i < e → t .at % 16 ≡ 0 → Walk ks iv i₀ e l₀ t₀ l t i → block ≡ blockBy ks iv (t .at / 16) → Span 0 (e - i) n
+pub followed : (key start : List ℕ) (e : ℕ) (l₀ : List ℕ) (t₀ : Keystream) (i₀ : ℕ) (l : List ℕ) (t : Keystream) (i n : ℕ) (block ys : List ℕ)
+    → e ≤ length l₀ → i < e → Walk key start i₀ e l₀ t₀ l t i → block ≡ blockFrom key start (t .at / 16) → Span 0 (e - i) n
     → ys ≡ xorPad (λ k. getD block (0 + k) 0) (take (i + n - i) (drop i l))
-    → Walk ks iv i₀ e l₀ t₀ (take i l ++ (ys ++ drop (i + n - i) (drop i l))) (record { block = block; at = t .at + n }) (i + n)
-followed ks iv e l₀ t₀ i₀ l t i n block ys he hi z w eb s ey =
-    walked ks iv i₀ e l₀ t₀ l t i n block ys he hi w eb (subst (λ (f : ℕ). Span f (e - i) n) (sym z) s)
+    → Walk key start i₀ e l₀ t₀ (take i l ++ (ys ++ drop (i + n - i) (drop i l))) (record { block = block; at = t .at + n }) (i + n)
+followed key start e l₀ t₀ i₀ l t i n block ys he hi w eb s ey =
+    let z = w .next hi in
+    walked key start i₀ e l₀ t₀ l t i n block ys he hi w eb (subst (λ (f : ℕ). Span f (e - i) n) (sym z) s)
     (ey ∙ ap (λ (f : ℕ). xorPad (λ k. getD block (f + k) 0) (take (i + n - i) (drop i l))) (sym z))
 
 -- the whole of a stretch: the block that was held, and then the blocks that the loop made
-pub stretched : (ks : List (List (List ℕ))) (iv : List (List ℕ)) (a e : ℕ) (s t₀ t : Keystream) (l l₀ m : List ℕ) (i₀ i : ℕ) → a ≤ e → e ≤ i → Used a e s t₀ → i₀ ≡ a + (t₀ .at - s .at)
-    → l₀ ≡ xorPad (stretchPad a (a + (t₀ .at - s .at)) (s .at) (byteBy ks iv)) l → Walk ks iv i₀ e l₀ t₀ m t i
-    → m ≡ xorPad (stretchPad a e (s .at) (byteBy ks iv)) l
-stretched ks iv a e s t₀ t l l₀ m i₀ i h g u ei el w =
-    let stream = byteBy ks iv in
+pub stretched : (key start : List ℕ) (a e : ℕ) (s t₀ t : Keystream) (l l₀ m : List ℕ) (i₀ i : ℕ) → a ≤ e → e ≤ i → Used a e s t₀ → i₀ ≡ a + (t₀ .at - s .at)
+    → l₀ ≡ xorPad (stretchPad a (a + (t₀ .at - s .at)) (s .at) (byteFrom key start)) l → Walk key start i₀ e l₀ t₀ m t i
+    → m ≡ xorPad (stretchPad a e (s .at) (byteFrom key start)) l
+stretched key start a e s t₀ t l l₀ m i₀ i h g u ei el w =
+    let stream = byteFrom key start in
     let f = u .forward in
     let n = u .within in
     sym (stretch-done i e (t .at) stream m g) ∙ w .left
@@ -145,9 +124,9 @@ stretched ks iv a e s t₀ t l l₀ m i₀ i h g u ei el w =
     ∙ stretch-join a i₀ e (s .at) (t₀ .at) stream l (omega arith) (omega arith) (omega arith)
 
 -- nothing is used of a keystream at the start of a block, nor where no places are left
-pub unused : (ks : List (List (List ℕ))) (iv : List (List ℕ)) (a o : ℕ) (l : List ℕ) → l ≡ xorPad (stretchPad a (a + (o - o)) o (byteBy ks iv)) l
-unused ks iv a o l = sym (stretch-done a (a + (o - o)) o (byteBy ks iv) l (omega arith))
+pub unused : (key start : List ℕ) (a o : ℕ) (l : List ℕ) → l ≡ xorPad (stretchPad a (a + (o - o)) o (byteFrom key start)) l
+unused key start a o l = sym (stretch-done a (a + (o - o)) o (byteFrom key start) l (omega arith))
 
 -- before the first byte
-pub fresh : (ks : List (List (List ℕ))) (iv : List (List ℕ)) (block : List ℕ) → Holds ks iv (record { block = block; at = 0 })
-fresh ks iv block = record { block = λ u. absurd (u refl) }
+pub fresh : (key start : List ℕ) (block : List ℕ) → Holds key start (record { block = block; at = 0 })
+fresh key start block = record { block = λ u. absurd (u refl) }

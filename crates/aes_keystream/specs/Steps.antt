@@ -5,15 +5,15 @@ use Prim.Native.Nat.{ℕ, _+_, _-_, _/_, _%_, _≤_, _<_}
 use lib.Dec.{ltb}
 use Rattle.bits.specs.Pick.{pick}
 use Rattle.aes_keystream.specs.declared.keystream.Keystream.{Keystream}
-use Rattle.aes_counter.specs.Blocks.{blockBy}
+use Rattle.aes.specs.Blocks.{blockFrom}
 
 -- the bytes to take from one block: the smaller of `left` and the 16 - from that remain
 abbrev pub spanOf : ℕ → ℕ → ℕ
 spanOf from left = pick (ltb left (16 - from)) left (16 - from)
 
 -- the keystream has the block of its next byte, unless that block is still to be made
-pub record Holds (ks : List (List (List ℕ))) (iv : List (List ℕ)) (s : Keystream) : Type 0 where
-  pub block : (s .at % 16 ≡ 0 → ⊥) → s .block ≡ blockBy ks iv (s .at / 16)
+pub record Holds (key start : List ℕ) (s : Keystream) : Type 0 where
+  pub block : (s .at % 16 ≡ 0 → ⊥) → s .block ≡ blockFrom key start (s .at / 16)
 
 -- the keystream r after the block that s held was used from place a on, but not past e: where places are left, a new block is next
 pub record Used (a e : ℕ) (s r : Keystream) : Type 0 where

@@ -1,6 +1,6 @@
 // XORing the keystream onto a buffer, a block at a time. A block that two stretches share is made once and held.
-use aes_begin::begin::Begun;
-use aes_counter::counter::keystream_block;
+use aes::blocks::Start;
+use aes::blocks::block;
 use block_xor::part::xor_bytes;
 use block_xor::part::xor_part;
 ghost use mathlib.Core.Path.{_≡_};
@@ -8,9 +8,7 @@ ghost use mathlib.Core.List.{List};
 ghost use Prim.Native.Nat.{ℕ, _+_, _-_, _^_, _≤_, _<_};
 ghost use lib.ListN.{length};
 ghost use Rattle.bits.specs.Xor.{xorPad};
-ghost use Rattle.aes_tables.specs.Tables.{SboxTable, RoundTable};
-ghost use Rattle.aes_begin.specs.Steps.{Begins};
-ghost use Rattle.aes_counter.specs.Blocks.{byteBy};
+ghost use Rattle.aes.specs.Blocks.{byteFrom, Lent, Started};
 ghost use Rattle.stretches.specs.Stretch.{stretchPad};
 ghost use Rattle.aes_keystream.specs.Steps.{spanOf, Holds, Used};
 
@@ -36,13 +34,12 @@ pub fn seek(
     sbox: &[u8; 256],
     table: &[u8; 2048],
     keys: &[[[u8; 4]; 4]; 11],
-    begun: Begun,
+    start: Start,
     at: usize,
 ) -> Keystream
-    requires { ⌜ SboxTable (now sbox) ⌝ }
-    requires { ⌜ RoundTable (now table) ⌝ }
-    ensures { λ r. ⌜ r .at ≡ at ⌝ }
-    ensures { λ r. ⌜ ((iv : List (List ℕ)) → Begins (now (keys .entry)) iv begun → Holds (now (keys .entry)) iv r) ⌝ }
+    requires { ⌜ Lent (now sbox) (now table) (now keys) (start .key) ⌝ }
+    requires { ⌜ Started start ⌝ }
+    ensures { λ r. ⌜ (r .at ≡ at) × Holds (start .key) (start .block) r ⌝ }
 {
     if at % 16 == 0 {
         return Keystream {
@@ -50,7 +47,7 @@ pub fn seek(
             at: at,
         };
     }
-    let block = keystream_block(sbox, table, keys, begun, at / 16);
+    let block = block(sbox, table, keys, start, at / 16);
     Keystream {
         block: block,
         at: at,
@@ -61,7 +58,7 @@ pub fn seek(
 fn xor_held(buf: &mut [u8], a: usize, e: usize, s: Keystream) -> Keystream
     requires { ⌜ (a ≤ e) × ((e ≤ length (now buf)) × (s .at + (e - a) < 2 ^ 32)) ⌝ }
     ensures { λ r. ⌜ Used a e s r ⌝ }
-    ensures { λ r. ⌜ ((ks : List (List (List ℕ))) (iv : List (List ℕ)) → Holds ks iv s → (Holds ks iv r) × (now (buf .exit) ≡ xorPad (stretchPad a (a + (r .at - s .at)) (s .at) (byteBy ks iv)) (now (buf .entry)))) ⌝ }
+    ensures { λ r. ⌜ ((key start : List ℕ) → Holds key start s → (Holds key start r) × (now (buf .exit) ≡ xorPad (stretchPad a (a + (r .at - s .at)) (s .at) (byteFrom key start)) (now (buf .entry)))) ⌝ }
 {
     let at = s.at;
     let from = at % 16;
@@ -86,23 +83,24 @@ pub fn xor_stretch(
     sbox: &[u8; 256],
     table: &[u8; 2048],
     keys: &[[[u8; 4]; 4]; 11],
-    begun: Begun,
+    start: Start,
     buf: &mut [u8],
     a: usize,
     e: usize,
     s: Keystream,
 ) -> Keystream
-    requires { ⌜ SboxTable (now sbox) ⌝ }
-    requires { ⌜ RoundTable (now table) ⌝ }
+    requires { ⌜ Lent (now sbox) (now table) (now keys) (start .key) ⌝ }
+    requires { ⌜ Started start ⌝ }
     requires { ⌜ (a ≤ e) × ((e ≤ length (now buf)) × (s .at + (e - a) < 2 ^ 32)) ⌝ }
-    ensures { λ r. ⌜ r .at ≡ s .at + (e - a) ⌝ }
-    ensures { λ r. ⌜ ((iv : List (List ℕ)) → Begins (now (keys .entry)) iv begun → Holds (now (keys .entry)) iv s → (Holds (now (keys .entry)) iv r) × (now (buf .exit) ≡ xorPad (stretchPad a e (s .at) (byteBy (now (keys .entry)) iv)) (now (buf .entry)))) ⌝ }
+    requires { ⌜ Holds (start .key) (start .block) s ⌝ }
+    ensures { λ r. ⌜ (r .at ≡ s .at + (e - a)) × Holds (start .key) (start .block) r ⌝ }
+    ensures { λ _. ⌜ now (buf .exit) ≡ xorPad (stretchPad a e (s .at) (byteFrom (start .key) (start .block))) (now (buf .entry)) ⌝ }
 {
     let mut t = xor_held(buf, a, e, s);
     let mut i = a + (t.at - s.at);
     while i < e {
         let at = t.at;
-        let block = keystream_block(sbox, table, keys, begun, at / 16);
+        let block = block(sbox, table, keys, start, at / 16);
         let n = span(0, e - i);
         let end = i + n;
         xor_part(&mut buf[i..end], block);

@@ -1,3 +1,4 @@
 pub mod Words
 pub mod Sbox
 pub mod RoundTable
+pub mod Rounds

@@ -14,6 +14,13 @@ at s r c = getD (getD s c []) r 0
 abbrev pub state : (ℕ → ℕ → ℕ) → List (List ℕ)
 state f = tabulate 4 (λ c. tabulate 4 (λ r. f r c))
 
+-- 3.4: sixteen bytes as a state, column after column, and back
+abbrev pub stateOf : List ℕ → List (List ℕ)
+stateOf b = state (λ r c. getD b (4 * c + r) 0)
+
+abbrev pub bytesOf : List (List ℕ) → List ℕ
+bytesOf s = tabulate 16 (λ k. at s (k % 4) (k / 4))
+
 -- bit i mod 8 of a byte, bit 0 the lowest
 abbrev pub bit : ℕ → ℕ → ℕ
 bit b i = b / 2 ^ (i % 8) % 2

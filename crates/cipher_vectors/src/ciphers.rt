@@ -1,11 +1,11 @@
 // AES on one block, and in counter mode.
+use aes::blocks;
+use aes::blocks::round_keys;
+use aes::blocks::start_at;
+use aes::blocks::state;
 use aes::cipher::aes128;
-use aes_begin::begin::begin;
 use aes_cm::derivation::derive;
 use aes_counter::counter::iv;
-use aes_counter::counter::keystream_block;
-use aes_counter::counter::state;
-use aes_keys::key_schedule::expand;
 use aes_tables::tables;
 use lines::arrays::array14;
 use lines::arrays::array16;
@@ -24,9 +24,10 @@ pub fn block(key: &[u8], block: &[u8]) {
 pub fn keystream(key: &[u8], salt: &[u8], j: usize) {
     let sbox = tables::sbox();
     let table = tables::round_table();
-    let keys = expand(&sbox, state(array16(key)));
-    let begun = begin(&table, &keys, iv(array14(salt), 0, 0));
-    put_line(&keystream_block(&sbox, &table, &keys, begun, j));
+    let k = array16(key);
+    let keys = round_keys(&sbox, k);
+    let start = start_at(&sbox, &table, &keys, k, iv(array14(salt), 0, 0));
+    put_line(&blocks::block(&sbox, &table, &keys, start, j));
 }
 
 // What is derived for a label from a master key and salt.

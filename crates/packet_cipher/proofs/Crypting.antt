@@ -11,7 +11,7 @@ use lib.ListN.{length, getD, take, drop, length-take}
 use Rattle.bits.specs.Pick.{pick}
 use Rattle.bits.specs.Xor.{xorPad}
 use Rattle.bits.proofs.Xor.{length-pad, pad-twice, pad-ext, pad-stays}
-use Rattle.aes_cm.specs.Portion.{portionPad}
+use Rattle.aes_cm.proofs.Portions.{before-first, in-gap}
 use Rattle.rtp_header.specs.declared.header.Layout.{Layout}
 use Rattle.rtp_elements.specs.Elements.{wholeOf}
 use Rattle.rtp_header.specs.Header.{layoutOf, blockOf}
@@ -40,11 +40,9 @@ cryptex-x policy h e = and-left (h .x) (isCryptexTag (h .tag)) (and-right (usesC
 
 portion-quiet : (h : Layout) → Sound h → (c : Bool) → (c ≡ true → h .x ≡ true) → (stream : ℕ → ℕ) (i : ℕ) → i < h .block → (i < 12) ⊎ (h .extension ≤ i)
     → portionPadOf (portionOf c h) stream i ≡ 0
-unfolding portionPad
-portion-quiet h s true x stream i b (inl l) = simp (lt-ltb i (h .contributors) (omega (arith, s .contributors)))
-portion-quiet h s true x stream i b (inr g) =
-    simp (le-ltb i (h .contributors) (omega (arith, s .contributors, s .count)), le-ltb i (h .extension) g, lt-ltb i (h .block) b)
-portion-quiet h s false x stream i b q = simp (lt-ltb i (h .payload) (omega (arith, s .payload)))
+portion-quiet h s true x stream i b (inl l) = before-first (h .contributors) (h .extension) (h .block) stream i (omega (arith, s .contributors))
+portion-quiet h s true x stream i b (inr g) = in-gap (h .contributors) (h .extension) (h .block) stream i (omega (arith, s .contributors, s .count)) g b
+portion-quiet h s false x stream i b q = before-first (h .payload) (h .payload) (h .payload) stream i (omega (arith, s .payload))
 
 pick-same : {A : Type 0} (t : Bool) (a b c : A) → a ≡ c → b ≡ c → pick t a b ≡ c
 pick-same true a b c e f = e

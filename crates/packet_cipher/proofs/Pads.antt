@@ -13,6 +13,7 @@ use Rattle.bits.specs.Pick.{pick}
 use Rattle.bits.specs.Xor.{_⊕_, xorPad}
 use Rattle.bits.proofs.Xor.{length-pad, pad-at, pad-ext}
 use Rattle.aes_cm.specs.Portion.{portionPad}
+use Rattle.aes_cm.proofs.Portions.{whole}
 use Rattle.rtp_elements.specs.Mask.{maskOf, maskedPad, maskedOf}
 
 pub take-pad : (n : ℕ) (f : ℕ → ℕ) (l : List ℕ) → take n (xorPad f l) ≡ xorPad f (take n l)
@@ -34,13 +35,6 @@ zeros-fit m z n e h =
     let l : length z ≡ m = ap length e ∙ length-replicate {A = ℕ} m 0 in
     (rw l e, omega arith)
 
--- the whole of a keystream, from its first byte on
-whole-stream : (stream : ℕ → ℕ) (k : ℕ) → portionPad 0 0 0 stream k ≡ stream k
-unfolding portionPad
-whole-stream stream k =
-    let e : 0 - 0 + (k - 0) ≡ k = omega arith in
-    simp (le-ltb k 0 (omega arith)) (ap stream e)
-
 module _ (z x : List ℕ) (n : ℕ) (stream : ℕ → ℕ) (e : z ≡ replicate (length z) 0) (fits : n ≤ length z) (made : x ≡ xorPad (portionPad 0 0 0 stream) (take (n - 0) (drop 0 z))) where
   count : length x ≡ n
   count =
@@ -58,7 +52,7 @@ module _ (z x : List ℕ) (n : ℕ) (stream : ℕ → ℕ) (e : z ≡ replicate 
       let m : length (take (n - 0) (drop 0 z)) ≡ n - 0 = length-take-le (n - 0) (drop 0 z) (omega arith) in
       List·getD-append x r 0 k (omega (arith, count)) ∙ ap (λ (l : List ℕ). getD l k 0) made
       ∙ pad-at (portionPad 0 0 0 stream) (take (n - 0) (drop 0 z)) k (omega arith)
-      ∙ ap₂ (λ (a b : ℕ). a ⊕ b) (zero-at k h) (whole-stream stream k) ∙ xor-zero-l (stream k)
+      ∙ ap₂ (λ (a b : ℕ). a ⊕ b) (zero-at k h) (whole stream k) ∙ xor-zero-l (stream k)
 
   -- then the block is masked by that keystream
   pub masked-by : (listed : ℕ → Bool) (tag : ℕ) (block r : List ℕ) → length block ≡ n → maskedOf listed tag (λ k. getD (x ++ r) k 0) block ≡ maskedOf listed tag stream block

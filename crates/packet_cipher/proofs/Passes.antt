@@ -11,7 +11,7 @@ use lib.ListN.{length, take, drop, length-take, length-drop}
 use lib.Seq.{length-take-le}
 use Rattle.bits.specs.Xor.{xorPad}
 use Rattle.bits.proofs.Xor.{length-pad, pad-ext, pad-none}
-use Rattle.aes_cm.specs.Portion.{portionPad}
+use Rattle.aes_cm.proofs.Portions.{before-first}
 use Rattle.stretches.specs.Stretch.{stretchPad}
 use Rattle.stretches.proofs.Stretches.{pad-join, at-before, at-past, at-in, stretch-part}
 use Rattle.rtp_header.specs.declared.header.Layout.{Layout}
@@ -43,13 +43,12 @@ portion-order false h n s f = omega arith
 -- q is the packet once its payload is encrypted: that keystream leaves the block as it is
 module _ (h : Layout) (stream : ℕ → ℕ) (p q : List ℕ) (e : q ≡ xorPad (portionPadOf (portionOf false h) stream) p) where
   block-stays : blockOf h q ≡ blockOf h p
-  unfolding portionPad
   block-stays =
       let m : length (blockOf h p) ≡ min (h .payload - h .block) (length (drop (h .block) p)) = length-take (h .payload - h .block) (drop (h .block) p) in
       let pad = portionPadOf (portionOf false h) stream in
       ap (blockOf h) e ∙ ap (take (h .payload - h .block)) (drop-pad (h .block) pad p)
       ∙ take-pad (h .payload - h .block) (λ i. pad (h .block + i)) (drop (h .block) p)
-      ∙ pad-none (λ i. pad (h .block + i)) (blockOf h p) (λ i b. simp (lt-ltb (h .block + i) (h .payload) (omega arith)))
+      ∙ pad-none (λ i. pad (h .block + i)) (blockOf h p) (λ i b. before-first (h .payload) (h .payload) (h .payload) stream (h .block + i) (omega arith))
 
   pub whole-stays : wholeOf (h .tag) (blockOf h p) ≡ true → wholeOf (h .tag) (blockOf h q) ≡ true
   whole-stays w = ap (wholeOf (h .tag)) block-stays ∙ w
@@ -79,17 +78,17 @@ module _ (listed : ℕ → Bool) (stream header-stream : ℕ → ℕ) (p : List 
       × (stretchPad (layoutOf p .block) (layoutOf p .payload) 0 blockPad i ≡ padOf Mask listed stream header-stream p i))
       ⊎ ((stretchPad (layoutOf p .block) (layoutOf p .payload) 0 blockPad i ≡ 0)
       × (portionPadOf (portionOf false (layoutOf p)) stream i ≡ padOf Mask listed stream header-stream p i))
-  unfolding padOf portionPad blockPad
+  unfolding padOf blockPad
   both-passes i =
       let s = sound p in
       elim (decLt i (layoutOf p .payload)) [
         | yes u ↦ elim (decLt i (layoutOf p .block)) [
           | yes v ↦ inl (
-            simp (lt-ltb i (layoutOf p .payload) u),
+            before-first (layoutOf p .payload) (layoutOf p .payload) (layoutOf p .payload) stream i u,
             at-before (layoutOf p .block) (layoutOf p .payload) 0 blockPad i v ∙ simp (lt-ltb i (layoutOf p .payload) u, lt-ltb i (layoutOf p .block) v),
           )
           | no v ↦ inl (
-            simp (lt-ltb i (layoutOf p .payload) u),
+            before-first (layoutOf p .payload) (layoutOf p .payload) (layoutOf p .payload) stream i u,
             at-in (layoutOf p .block) (layoutOf p .payload) 0 blockPad i (i - layoutOf p .block) (omega arith) u (omega arith)
                 ∙ simp (lt-ltb i (layoutOf p .payload) u, le-ltb i (layoutOf p .block) (omega arith)),
           )

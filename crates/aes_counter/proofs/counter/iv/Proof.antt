@@ -3,10 +3,10 @@ use mathlib.Core.Path.{_≡_}
 use Prim.Native.Nat.{ℕ}
 use mir.Syntax.{w8}
 use mir.Val.{Fits}
-use borrow.Author.Needs.{needs}
 use lib.ListN.{length, getD}
 use Rattle.bits.proofs.Bytes.{are-bytes}
 use Rattle.aes_counter.proofs.Counters.{iv-is}
+use borrow.Author.Needs.{needs}
 use Rattle.aes_counter.proofs.counter.iv.Statement.{statement}
 use Rattle.aes_counter.proofs.counter.iv.Tie as tie
 
@@ -58,41 +58,41 @@ array-read-t44 c = search needs
 array-read-t47 : tie.Need-array-read-t47
 array-read-t47 c = search needs
 
-array-read-t52 : tie.Need-array-read-t52
-array-read-t52 c = search needs
+array-read-t51 : tie.Need-array-read-t51
+array-read-t51 c = search needs
 
-array-read-t55 : tie.Need-array-read-t55
-array-read-t55 c = search needs
+array-read-t54 : tie.Need-array-read-t54
+array-read-t54 c = search needs
 
-array-read-t59 : tie.Need-array-read-t59
-array-read-t59 c = search needs
+array-read-t58 : tie.Need-array-read-t58
+array-read-t58 c = search needs
 
-array-read-t62 : tie.Need-array-read-t62
-array-read-t62 c = search needs
+array-read-t61 : tie.Need-array-read-t61
+array-read-t61 c = search needs
 
-array-read-t66 : tie.Need-array-read-t66
-array-read-t66 c = search needs
+array-read-t65 : tie.Need-array-read-t65
+array-read-t65 c = search needs
 
-array-read-t69 : tie.Need-array-read-t69
-array-read-t69 c = search needs
+array-read-t68 : tie.Need-array-read-t68
+array-read-t68 c = search needs
 
-array-read-t73 : tie.Need-array-read-t73
-array-read-t73 c = search needs
+array-read-t72 : tie.Need-array-read-t72
+array-read-t72 c = search needs
 
-array-read-t76 : tie.Need-array-read-t76
-array-read-t76 c = search needs
+array-read-t75 : tie.Need-array-read-t75
+array-read-t75 c = search needs
 
-array-read-t81 : tie.Need-array-read-t81
-array-read-t81 c = search needs
+array-read-t79 : tie.Need-array-read-t79
+array-read-t79 c = search needs
 
-array-read-t84 : tie.Need-array-read-t84
-array-read-t84 c = search needs
+array-read-t82 : tie.Need-array-read-t82
+array-read-t82 c = search needs
 
-array-read-t88 : tie.Need-array-read-t88
-array-read-t88 c = search needs
+array-read-t86 : tie.Need-array-read-t86
+array-read-t86 c = search needs
 
-array-read-t91 : tie.Need-array-read-t91
-array-read-t91 c = search needs
+array-read-t89 : tie.Need-array-read-t89
+array-read-t89 c = search needs
 
 returns : tie.Need-returns
 returns c =
@@ -119,16 +119,16 @@ iv-spec =
     array-read-t40
     array-read-t44
     array-read-t47
-    array-read-t52
-    array-read-t55
-    array-read-t59
-    array-read-t62
-    array-read-t66
-    array-read-t69
-    array-read-t73
-    array-read-t76
-    array-read-t81
-    array-read-t84
-    array-read-t88
-    array-read-t91
+    array-read-t51
+    array-read-t54
+    array-read-t58
+    array-read-t61
+    array-read-t65
+    array-read-t68
+    array-read-t72
+    array-read-t75
+    array-read-t79
+    array-read-t82
+    array-read-t86
+    array-read-t89
     returns)

@@ -17,14 +17,14 @@ returns : tie.Need-returns
 returns c =
     let a = c .before .before .args in (
       record { forward = omega arith; within = omega arith; next = λ u. c .if1 .taken },
-      λ ks iv h. (h, unused ks iv (a .a) (a .s .at) (a .buf .now)),
+      λ key start h. (h, unused key start (a .a) (a .s .at) (a .buf .now)),
     )
 
 returns-2 : tie.Need-returns-2
 returns-2 c =
     let a = c .before .before .before .args in (
       record { forward = omega arith; within = omega arith; next = λ u. absurd (omega arith) },
-      λ ks iv h. (h, unused ks iv (a .a) (a .s .at) (a .buf .now)),
+      λ key start h. (h, unused key start (a .a) (a .s .at) (a .buf .now)),
     )
 
 sub-span : tie.Need-sub-span
@@ -75,7 +75,7 @@ returns-3 c =
         within = omega (arith, s .within);
         next = λ u. let w = s .whole (omega arith) in omega arith;
       },
-      λ ks iv h. held ks iv (a .a) (a .e) (a .buf .now) (a .s) n (x .xor-bytes .last .0) left (st .pre .1 .0) (p .before .before .if1 .left) s (x .xor-bytes .ensures) h,
+      λ key start h. held key start (a .a) (a .e) (a .buf .now) (a .s) n (x .xor-bytes .last .0) left (st .pre .1 .0) (p .before .before .if1 .left) s (x .xor-bytes .ensures) h,
     )
 
 pub xor-held-spec : {M : Type 1} → statement M

@@ -1,22 +1,18 @@
 -- `aes_keystream::keystream::xor_stretch` meets its contract.
 use mathlib.Core.Path.{_≡_, refl, _∙_}
-use mathlib.Core.List.{List}
-use Prim.Native.Nat.{ℕ, _+_, _-_, _≤_, _<_}
+use Prim.Native.Nat.{_+_, _-_, _≤_, _<_}
 use native.Mathlib.Omega.{arith}
 use lib.ListN.{length, take, drop, length-drop}
 use lib.Seq.{length-take-le}
-use Rattle.aes_begin.specs.Steps.{Begins}
-use Rattle.aes_keystream.specs.Steps.{Holds}
-use Rattle.aes_keystream.proofs.Walks.{Span, spanned, Place, placed, Walk, followed, stretched}
+use Rattle.aes_keystream.proofs.Walks.{Span, spanned, Walk, followed, stretched}
 use Rattle.aes_keystream.proofs.keystream.xor_stretch.Statement.{statement}
 use Rattle.aes_keystream.proofs.keystream.xor_stretch.Tie as tie
 
 abbrev Inv-loop : tie.InvT-loop
-Inv-loop sbox table keys begun buf₀ a e t₀ i₀ buf t i =
-    Place e buf₀ t₀ i₀ buf t i × ((iv : List (List ℕ)) → Begins keys iv begun → Holds keys iv t₀ → Walk keys iv i₀ e buf₀ t₀ buf t i)
+Inv-loop sbox table keys start₀ buf₀ a e t₀ i₀ buf t i = Walk (start₀ .key) (start₀ .block) i₀ e buf₀ t₀ buf t i
 
 abbrev μ-loop : tie.MeasureT-loop
-μ-loop sbox table keys begun buf₀ a e t₀ i₀ buf t i = e - i
+μ-loop sbox table keys start₀ buf₀ a e t₀ i₀ buf t i = e - i
 
 abbrev held-of : tie.After-struct-known2 Inv-loop μ-loop → tie.After-xor-held Inv-loop μ-loop
 held-of c = c .before .before .before .before
@@ -26,7 +22,7 @@ start c = held-of c .before .before .before
 
 -- the buffer is as long as it was
 room : (c : tie.After-struct-known2 Inv-loop μ-loop) → start c .args .e ≤ length (held-of c .xor-held .last .0)
-room c = omega (arith, c .before .before .before .buf .given, start c .pre .1 .1 .1 .0)
+room c = omega (arith, c .before .before .before .buf .given, start c .pre .1 .1 .0 .1 .0)
 
 abbrev at-loop : tie.After-span Inv-loop μ-loop → tie.At-loop Inv-loop μ-loop
 at-loop c = c .before .before .before
@@ -35,25 +31,31 @@ span-of : (c : tie.After-span Inv-loop μ-loop) → Span 0 (start (at-loop c .be
 span-of c = spanned _ _ (c .span .result) (omega arith) (c .span .ensures)
 
 xor-held-requires : tie.Need-xor-held-requires Inv-loop μ-loop
-xor-held-requires c κs = c .before .before .pre .1 .1
+xor-held-requires c κs = c .before .before .pre .1 .1 .0
 
 sub-i : tie.Need-sub-i Inv-loop μ-loop
 sub-i c = let u = held-of c .xor-held .ensures .0 in omega (arith, u .forward)
 
 add-i : tie.Need-add-i Inv-loop μ-loop
-add-i c = let s = start c in let u = held-of c .xor-held .ensures .0 in omega (arith, u .forward, u .within, s .pre .1 .1 .1 .1)
+add-i c = let s = start c in let u = held-of c .xor-held .ensures .0 in omega (arith, u .forward, u .within, s .pre .1 .1 .0 .1 .1)
 
 loop-holds : tie.Need-loop-holds Inv-loop μ-loop
 loop-holds c =
     let s = start c in
     let u = held-of c .xor-held .ensures .0 in
-    let p = s .pre .1 .1 .0 in (
-      record { from = omega arith; upto = omega (arith, u .within); size = refl; at = omega arith; next = λ h. u .next (omega (arith, u .forward, u .within)) },
-      λ iv b h. record { from = omega arith; upto = omega (arith, u .within); size = refl; at = omega arith; holds = h; left = refl },
-    )
+    let p = s .pre .1 .1 .0 .0 in
+    record {
+      from = omega arith;
+      upto = omega (arith, u .within);
+      size = refl;
+      at = omega arith;
+      next = λ h. u .next (omega (arith, u .forward, u .within));
+      holds = held-of c .xor-held .ensures .1 (s .args .start .key) (s .args .start .block) (s .pre .1 .1 .1) .0;
+      left = refl;
+    }
 
-keystream-block-requires : tie.Need-keystream-block-requires Inv-loop μ-loop
-keystream-block-requires c κs = let s = start (c .before .before) in (s .pre .0, s .pre .1 .0)
+block-requires : tie.Need-block-requires Inv-loop μ-loop
+block-requires c κs = let s = start (c .before .before) in (s .pre .0, s .pre .1 .0)
 
 sub-span : tie.Need-sub-span Inv-loop μ-loop
 sub-span c = omega arith
@@ -71,7 +73,7 @@ part-xor-part-start : tie.Need-part-xor-part-start Inv-loop μ-loop
 part-xor-part-start c = omega arith
 
 part-xor-part-end : tie.Need-part-xor-part-end Inv-loop μ-loop
-part-xor-part-end c = let l = at-loop c in let s = span-of c in omega (arith, s .within, l .loop .inv .0 .size, room (l .before))
+part-xor-part-end c = let l = at-loop c in let s = span-of c in omega (arith, s .within, l .loop .inv .size, room (l .before))
 
 xor-part-requires : tie.Need-xor-part-requires Inv-loop μ-loop
 xor-part-requires c κs =
@@ -80,7 +82,7 @@ xor-part-requires c κs =
     let n = c .before .span .result in
     let i = l .loop .i in
     let m : length (take (i + n - i) (drop i (l .loop .buf))) ≡ i + n - i =
-    length-take-le (i + n - i) (drop i (l .loop .buf)) (simp length-drop (omega (arith, s .within, l .loop .inv .0 .size, room (l .before)))) in
+    length-take-le (i + n - i) (drop i (l .loop .buf)) (simp length-drop (omega (arith, s .within, l .loop .inv .size, room (l .before)))) in
     omega (arith, s .fits)
 
 add-t19 : tie.Need-add-t19 Inv-loop μ-loop
@@ -90,7 +92,7 @@ add-t19 c =
     let s = span-of d in
     let b = start (l .before) in
     let u = held-of (l .before) .xor-held .ensures .0 in
-    omega (arith, s .within, l .loop .inv .0 .at, l .loop .inv .0 .from, u .forward, u .within, b .pre .1 .1 .1 .1)
+    omega (arith, s .within, l .loop .inv .at, l .loop .inv .from, u .forward, u .within, b .pre .1 .1 .0 .1 .1)
 
 loop-less : tie.Need-loop-less Inv-loop μ-loop
 loop-less c =
@@ -111,15 +113,12 @@ loop-again c =
     let t₀ = held-of b .xor-held .result in
     let i₀ = a .a + (t₀ .at - a .s .at) in
     let buf₀ = held-of b .xor-held .last .0 in
-    let hi : p .i < a .e = omega arith in (
-      placed (a .e) buf₀ t₀ i₀ (p .buf) (p .t) (p .i) (d .span .result) (k .keystream-block .result) (x .xor-part .last .0)
-          (room b) hi (p .inv .0) (span-of d) (x .xor-part .ensures),
-      λ iv g h. followed (a .keys .now) iv (a .e) buf₀ t₀ i₀ (p .buf) (p .t) (p .i) (d .span .result) (k .keystream-block .result) (x .xor-part .last .0)
-          (room b) hi (p .inv .0 .next hi) (p .inv .1 iv g h) (k .keystream-block .ensures iv g) (span-of d) (x .xor-part .ensures),
-    )
+    let hi : p .i < a .e = omega arith in
+    followed (a .start .key) (a .start .block) (a .e) buf₀ t₀ i₀ (p .buf) (p .t) (p .i) (d .span .result) (k .block .result) (x .xor-part .last .0)
+    (room b) hi (p .inv) (k .block .ensures) (span-of d) (x .xor-part .ensures)
 
 same-length : tie.Need-same-length Inv-loop μ-loop
-same-length c = let l = c .before in l .loop .inv .0 .size ∙ l .before .before .before .before .buf .given
+same-length c = let l = c .before in l .loop .inv .size ∙ l .before .before .before .before .buf .given
 
 returns : tie.Need-returns Inv-loop μ-loop
 returns c =
@@ -128,13 +127,11 @@ returns c =
     let a = start b .args in
     let x = held-of b .xor-held in
     let u = x .ensures .0 in
-    let p = l .loop .inv .0 in
-    let q = start b .pre .1 .1 .0 in (
-      omega (arith, p .at, p .upto, p .from, u .forward, u .within),
-      λ iv g h.
-          let y = x .ensures .1 (a .keys .now) iv h in
-          let w = l .loop .inv .1 iv g (y .0) in
-          (w .holds, stretched (a .keys .now) iv (a .a) (a .e) (a .s) (x .result) (l .loop .t) (a .buf .now) (x .last .0) (l .loop .buf) (a .a + (x .result .at - a .s .at)) (l .loop .i) q (omega arith) u refl (y .1) w),
+    let w = l .loop .inv in
+    let y = x .ensures .1 (a .start .key) (a .start .block) (start b .pre .1 .1 .1) in (
+      (omega (arith, w .at, w .upto, w .from, u .forward, u .within), w .holds),
+      stretched (a .start .key) (a .start .block) (a .a) (a .e) (a .s) (x .result) (l .loop .t) (a .buf .now) (x .last .0) (l .loop .buf) (a .a + (x .result .at - a .s .at)) (l .loop .i)
+          (start b .pre .1 .1 .0 .0) (omega arith) u refl (y .1) w,
     )
 
 pub xor-stretch-spec : {M : Type 1} → statement M
@@ -147,7 +144,7 @@ xor-stretch-spec =
     sub-i
     add-i
     loop-holds
-    keystream-block-requires
+    block-requires
     sub-span
     span-requires
     add-end

@@ -1,9 +1,10 @@
 -- `aes_rounds::round::last_round` meets its contract.
-use mathlib.Core.Path.{ap, _∙_}
+use mathlib.Core.Path.{sym, ap, _∙_}
 use mathlib.Core.List.{List}
 use Prim.Native.Nat.{ℕ}
 use borrow.Author.Needs.{needs}
-use Rattle.aes_tables.specs.Cipher.{addRoundKey, lastRoundOf}
+use Rattle.aes_tables.specs.Cipher.{addRoundKey}
+use Rattle.aes_tables.proofs.Rounds.{last-round-is}
 use Rattle.aes_tables.proofs.Words.{cons4}
 use Rattle.aes_rounds.proofs.round.last_round.Statement.{statement}
 use Rattle.aes_rounds.proofs.round.last_round.Tie as tie
@@ -84,7 +85,6 @@ add-round-key-requires : tie.Need-add-round-key-requires
 add-round-key-requires c κs = search needs
 
 returns : tie.Need-returns
-unfolding lastRoundOf
 returns c =
     let s4 = c .before in
     let s3 = s4 .before in
@@ -93,6 +93,7 @@ returns c =
     c .add-round-key .ensures
     ∙ ap (λ (x : List (List ℕ)). addRoundKey x (s1 .before .before .before .before .before .args .k))
     (cons4 (s1 .substitute .ensures) (s2 .substitute2 .ensures) (s3 .substitute3 .ensures) (s4 .substitute4 .ensures))
+    ∙ sym (last-round-is _ _)
 
 pub last-round-spec : {M : Type 1} → statement M
 last-round-spec =

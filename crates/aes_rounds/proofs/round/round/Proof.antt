@@ -1,6 +1,7 @@
 -- `aes_rounds::round::round` meets its contract: the steps of a round, a column at a time.
+use mathlib.Core.Path.{sym, _∙_}
 use borrow.Author.Needs.{needs}
-use Rattle.aes_tables.specs.Cipher.{roundOf}
+use Rattle.aes_tables.proofs.Rounds.{round-is}
 use Rattle.aes_tables.proofs.Words.{cons4}
 use Rattle.aes_rounds.proofs.round.round.Statement.{statement}
 use Rattle.aes_rounds.proofs.round.round.Tie as tie
@@ -90,12 +91,11 @@ round-column-requires-4 : tie.Need-round-column-requires-4
 round-column-requires-4 c κs = search needs
 
 returns : tie.Need-returns
-unfolding roundOf
 returns c =
     let c3 = c .before .before in
     let c2 = c3 .before .before in
     let c1 = c2 .before .before in
-    cons4 (c1 .round-column .ensures) (c2 .round-column2 .ensures) (c3 .round-column3 .ensures) (c .round-column4 .ensures)
+    cons4 (c1 .round-column .ensures) (c2 .round-column2 .ensures) (c3 .round-column3 .ensures) (c .round-column4 .ensures) ∙ sym (round-is _ _)
 
 pub round-spec : {M : Type 1} → statement M
 round-spec =

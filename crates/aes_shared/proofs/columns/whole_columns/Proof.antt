@@ -1,6 +1,10 @@
 -- `aes_shared::columns::whole_columns` meets its contract.
+use mathlib.Core.Path.{sym, ap, _∙_}
+use mathlib.Core.List.{List, []}
+use Prim.Native.Nat.{ℕ}
+use lib.ListN.{getD}
 use borrow.Author.Needs.{needs}
-use Rattle.aes_tables.specs.Cipher.{roundOf}
+use Rattle.aes_tables.proofs.Rounds.{round-is}
 use Rattle.aes_tables.proofs.Words.{cons2}
 use Rattle.aes_shared.proofs.columns.whole_columns.Statement.{statement}
 use Rattle.aes_shared.proofs.columns.whole_columns.Tie as tie
@@ -54,8 +58,11 @@ round-column-requires-2 : tie.Need-round-column-requires-2
 round-column-requires-2 c κs = search needs
 
 returns : tie.Need-returns
-unfolding roundOf
-returns c = cons2 (c .before .before .round-column .ensures) (c .round-column2 .ensures)
+returns c =
+    let d = c .before .before in
+    let a = d .before .before .before .before .before .before .args in
+    let e = sym (round-is (a .t2) (a .t3)) in
+    cons2 (d .round-column .ensures ∙ ap (λ (x : List (List ℕ)). getD x 2 []) e) (c .round-column2 .ensures ∙ ap (λ (x : List (List ℕ)). getD x 3 []) e)
 
 pub whole-columns-spec : {M : Type 1} → statement M
 whole-columns-spec =
