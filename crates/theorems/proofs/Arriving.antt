@@ -33,15 +33,16 @@ use Rattle.wire.specs.Wire.{givenBackOf, wireOf, restoreOf, tagFits}
 use Rattle.policies.specs.Judging.{judgedOf}
 use Rattle.policies.proofs.Layouts.{apart, layout-extension}
 use Rattle.wire.proofs.RoundTrips.{passed, judged, sent-is-given-back}
-use Rattle.session.specs.Session.{Record, Setup, Session}
+use Rattle.session.specs.Session.{Record, Setup, Session, Made}
 use Rattle.session.specs.Records.{some, withReplay, freshRecord}
 use Rattle.session.specs.Packets.{tagLength, listedBy, Effect, refuse, give, unprotectAt, unprotectEffect, Outcome, settled, protectOf, unprotectOf}
-use Rattle.theorems.specs.Lists.{sender, receiver, Call, add, protect, unprotect, Sessions, justMade, Event, eventsOf}
+use Rattle.theorems.specs.Lists.{sender, receiver, Call, add, protect, unprotect, Sessions, justMade, EqualSets, Event, eventsOf, Bytes}
 use Rattle.theorems.specs.Sent.{Sent, noPacket}
 use Rattle.theorems.specs.Arrivals.{Mark, unmarked, carries, Arrival, arrivalAt, otherAt, arrivalsOf, othersOf, Carries, AllNear, Premises, Right, AsTheLedger, ArrivalsFollowTheLedger}
 use Rattle.theorems.proofs.Records.{found-stored}
 use Rattle.theorems.proofs.Holding.{protectDone, unprotectDone, Holds, holds-add, holds-settled, Behind, behind-add}
 use Rattle.theorems.proofs.Sending.{Good, trip, setup, made-setup, all-sent}
+use Rattle.theorems.proofs.Keeping.{equal-sets}
 
 ways-differ : Sending ≡ Receiving → ⊥
 ways-differ e = apart cc
@@ -304,15 +305,15 @@ module _ (h : Setup) (x rollover : ℕ) (large : rollover < 2 ^ 32) (sent : List
       (record { rec = freshRecord x Receiving rollover; holds = b .holds; start = refl; remembers = fresh-remembers blocks width (omega arith) })
       (record { carried = q .carried; nothing-else = q .nothing-else; near = q .near }))
 
-pub follow : ArrivalsFollowTheLedger
-unfolding ArrivalsFollowTheLedger
-follow key salt policy ids calls bytes x rollover i j large there here sent sent-is marks p =
-    let start : Sessions = justMade key salt policy ids in
+pub follow : (key salt : List ℕ) (policy : ℕ) (ids others : List ℕ) → EqualSets ids others → (calls : List Call) → Each Bytes calls
+    → ArrivalsFollowTheLedger policy (eventsOf (justMade key salt policy ids others) calls)
+follow key salt policy ids others equal calls bytes x rollover i j large there here sent sent-is marks p =
+    let start : Sessions = justMade key salt policy ids others in
     let events : List Event = eventsOf start calls in
     let h : Setup = setup key salt policy ids in
     let b : Behind h receiver x Receiving rollover (drop (suc j) events)
-    = behind-add h receiver x Receiving rollover calls bytes start j refl here in
-    let goods : Each (Good h x) sent = rw sent-is (all-sent key salt policy ids calls bytes x rollover i large there) in
+    = behind-add h receiver x Receiving rollover calls bytes start j (ap (λ (m : Made). m .session .setup) (sym (equal-sets .equal key salt policy ids others equal))) here in
+    let goods : Each (Good h x) sent = rw sent-is (all-sent key salt policy ids others calls bytes x rollover i large there) in
     subst (λ (q : Policy). AsTheLedger q sent [] (arrivalsOf marks (drop (suc j) events)))
     (ap (λ (t : Setup). t .policy) (made-setup key salt policy ids (b .made)))
     (from-add h x rollover large sent goods (drop (suc j) events) b marks p)

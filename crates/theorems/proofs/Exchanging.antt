@@ -1,10 +1,10 @@
 -- Two neighbouring packet calls for different streams change places.
 use mathlib.Core.Path.{_≡_, refl, ap, _∙_, sym}
-use mathlib.Core.List.{List, [], _∷_, _++_}
+use mathlib.Core.List.{List, [], _∷_}
 use mathlib.Core.Logic.{_⊎_, inl, inr, ⊎-elim}
-use Prim.Native.Nat.{ℕ, _≤_}
+use Prim.Native.Nat.{ℕ, zero, suc, _≤_}
 use native.Mathlib.Omega.{arith}
-use lib.ListN.{length}
+use lib.ListN.{getD}
 use Rattle.bits.specs.Refusals.{numberOf}
 use Rattle.bits.specs.declared.refusal.Refusal.{Refusal}
 use Rattle.bits.specs.declared.refusal.Refusal.the-variants as refusal
@@ -13,7 +13,7 @@ use Rattle.session.specs.Session.{Setup, Session}
 use Rattle.session.specs.Records.{Found, recordFor}
 use Rattle.session.specs.Packets.{listedBy, Effect, refuse, give, protectEffect, unprotectEffect, Answer, Outcome, settled, protectOf, unprotectOf}
 use Rattle.theorems.specs.Answers.{bufferOf}
-use Rattle.theorems.specs.Lists.{End, sender, receiver, Call, add, protect, unprotect, endOf, Sessions, sessionAt, withSession, outcomeOf, answerOf, next, Event, event, after, eventsOf}
+use Rattle.theorems.specs.Lists.{End, sender, receiver, Call, add, protect, unprotect, endOf, Sessions, sessionAt, withSession, outcomeOf, answerOf, next, Event, event, callIn, answerIn, noEvent, after, eventsOf, Run, run}
 use Rattle.theorems.specs.Places.{IsPacketCall, ssrcIn, wayIn, LengthOrShort, DifferentStreams, exchanged, NeighboursChangePlaces}
 use Rattle.theorems.proofs.Refusing.{Refuses, Early, Timing, early, later, LateToProtect, LateToUnprotect, protect-timing, unprotect-timing}
 use Rattle.theorems.proofs.Settling.{setup-settled, answer-settled, found-settled, settled-commute}
@@ -157,7 +157,7 @@ flipped s c d o = record { sessions = sym (o .sessions); left = o .right; right 
 second-early : (s : Sessions) (c d : Call) → IsPacketCall d → LengthOrShort (answerOf (next s c) d) → Early (effectIn (sessionAt (endOf d) s .setup) d)
 second-early s c d k a = rw (setup-next (endOf d) s c) at (unread-early (sessionAt (endOf d) (next s c)) d k a)
 
-commute : (s : Sessions) (c d : Call) → IsPacketCall c → IsPacketCall d → DifferentStreams s c d → Commute s c d
+commute : (s : Sessions) (c d : Call) → IsPacketCall c → IsPacketCall d → DifferentStreams c (answerOf s c) d (answerOf (next s c) d) → Commute s c d
 commute s c d kc kd a =
     ⊎-elim (λ f. apart-commute s c d kc kd f)
     (λ b. ⊎-elim
@@ -168,19 +168,17 @@ commute s c d kc kd a =
 
 -- ---- along the list
 
-module _ (c d : Call) (later-calls : List Call) where
-  sessions-exchanged : (before : List Call) (s : Sessions) → Commute (after s before) c d
-      → after s (before ++ d ∷ c ∷ later-calls) ≡ after s (before ++ c ∷ d ∷ later-calls)
-  sessions-exchanged [] s o = ap (λ (t : Sessions). after t later-calls) (sym (o .sessions))
-  sessions-exchanged (b ∷ bs) s o = sessions-exchanged bs (next s b) o
+record Neighbours (u v : Event) : Type 0 where
+  first : IsPacketCall (callIn u)
+  second : IsPacketCall (callIn v)
+  differ : DifferentStreams (callIn u) (answerIn u) (callIn v) (answerIn v)
 
-  events-exchanged : (before : List Call) (s : Sessions) → Commute (after s before) c d
-      → eventsOf s (before ++ d ∷ c ∷ later-calls) ≡ exchanged (length before) (eventsOf s (before ++ c ∷ d ∷ later-calls))
-  events-exchanged [] s o = rw (o .left, o .right, o .sessions)
-  events-exchanged (b ∷ bs) s o = ap (λ (l : List Event). event b (answerOf s b) ∷ l) (events-exchanged bs (next s b) o)
+along : (k : ℕ) (calls : List Call) (s : Sessions) → Neighbours (getD (eventsOf s calls) k noEvent) (getD (eventsOf s calls) (suc k) noEvent)
+    → run s (exchanged k calls) ≡ record { events = exchanged k (eventsOf s calls); sessions = after s calls }
+along k [] s o = absurd (o .first)
+along zero (c ∷ []) s o = absurd (o .second)
+along zero (c ∷ d ∷ calls) s o = let q = commute s c d (o .first) (o .second) (o .differ) in rw (q .left, q .right, q .sessions)
+along (suc k) (c ∷ calls) s o = ap (λ (r : Run). record { events = event c (answerOf s c) ∷ r .events; sessions = r .sessions }) (along k calls (next s c) o)
 
-pub exchange : NeighboursChangePlaces
-unfolding NeighboursChangePlaces
-exchange s before later-calls c d kc kd a =
-    let o = commute (after s before) c d kc kd a in
-    (events-exchanged c d later-calls before s o, sessions-exchanged c d later-calls before s o)
+pub exchange : (s : Sessions) (calls : List Call) → NeighboursChangePlaces (run s) calls
+exchange s calls k c d a b e f kc kd differ = along k calls s (rw (e, f) (record { first = kc; second = kd; differ = differ }))

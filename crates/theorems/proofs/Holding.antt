@@ -17,8 +17,8 @@ use Rattle.session.specs.Session.{Record, Setup, Session}
 use Rattle.session.specs.Records.{none, some, recordFor, hasSsrc, freshRecord}
 use Rattle.session.specs.Adding.{addOf}
 use Rattle.session.specs.Packets.{listedBy, Effect, refuse, give, protectEffect, unprotectEffect, settled, protectOf, unprotectOf}
-use Rattle.theorems.specs.Lists.{End, sender, receiver, Call, add, protect, unprotect, endOf, Sessions, sessionAt, withSession, outcomeOf, answerOf, next, Event, event, eventsOf, Bytes}
-use Rattle.theorems.specs.Sent.{Last, sentFrom, added, noEvent}
+use Rattle.theorems.specs.Lists.{End, sender, receiver, Call, add, protect, unprotect, endOf, Sessions, sessionAt, withSession, outcomeOf, answerOf, next, Event, event, callIn, added, noEvent, eventsOf, Bytes}
+use Rattle.theorems.specs.Sent.{Last, sentFrom}
 use Rattle.theorems.proofs.Records.{none-found, stored-ssrc, add-found, add-setup, add-new, add-made, add-absent, add-keeps}
 use Rattle.theorems.proofs.Settling.{setup-settled, found-settled, none-given}
 
@@ -70,9 +70,6 @@ same-end receiver s t = refl
 
 abbrev numberIn : Event → ℕ
 numberIn (event c a) = a .number
-
-abbrev callIn : Event → Call
-callIn (event c a) = c
 
 -- what comes after the add is a run from sessions that hold the new record
 pub record Behind (h : Setup) (e : End) (x : ℕ) (w : Way) (rollover : ℕ) (rest : List Event) : Type 0 where

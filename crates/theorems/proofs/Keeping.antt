@@ -12,7 +12,6 @@ use Rattle.bits.proofs.Lists.{tabulate-ext}
 use Rattle.bits.specs.Bits.{packed}
 use Rattle.bits.specs.Pick.{pick}
 use Rattle.bits.specs.declared.refusal.Refusal.the-variants as refusal
-use Rattle.rtp_elements.specs.Mask.{among}
 use Rattle.rtp_header.specs.declared.header.Header.{Header}
 use Rattle.rtp_header.specs.declared.header.Header.the-variants.{Read, Refused}
 use Rattle.rtp_header.specs.Header.{ssrcOf}
@@ -27,7 +26,7 @@ use Rattle.session.specs.Making.{counts, idsOf, unmade, sessionOf, makeOf}
 use Rattle.session.specs.Adding.{addOf}
 use Rattle.session.specs.Packets.{listedBy, tagLength, Effect, refuse, give, unprotectRead, unprotectEffect, settled, protectOf, unprotectOf}
 use Rattle.session.proofs.Ids.{ids-listed}
-use Rattle.theorems.specs.Lists.{End, sender, receiver, Call, add, protect, unprotect, Sessions, sessionAt, outcomeOf, next, after, justMade}
+use Rattle.theorems.specs.Lists.{End, sender, receiver, Call, add, protect, unprotect, Sessions, sessionAt, outcomeOf, next, after, justMade, EqualSets}
 use Rattle.theorems.specs.Sessions.{NoSsrcTwice, Sound, SessionsAreSound, EqualSetsEqualSessions, WordsAreTheSet}
 use Rattle.theorems.proofs.Records.{clash, or-false, free-for, stored-ssrc, addBy}
 use Rattle.theorems.proofs.Settling.{none-given}
@@ -215,14 +214,14 @@ sessions-are-sound =
       kept = kept;
       setup = setup-outcome;
       always =
-          λ key salt policy ids calls e.
-          at-end e (after (justMade key salt policy ids) calls)
-          (after-sound calls (justMade key salt policy ids) (record { atSender = made key salt policy ids; atReceiver = made key salt policy ids }));
+          λ key salt policy ids others calls e.
+          at-end e (after (justMade key salt policy ids others) calls)
+          (after-sound calls (justMade key salt policy ids others) (record { atSender = made key salt policy ids; atReceiver = made key salt policy others }));
     }
 
 -- ---- sets of ids
 
-same-ids : (ids others : List ℕ) → ((id : ℕ) → 0 < id → id < 256 → among ids id ≡ among others id) → idsOf ids ≡ idsOf others
+same-ids : (ids others : List ℕ) → EqualSets ids others → idsOf ids ≡ idsOf others
 unfolding idsOf
 same-ids ids others e =
     tabulate-ext 4 (λ j. packed 64 (λ k. counts ids (64 * j + k))) (λ j. packed 64 (λ k. counts others (64 * j + k)))

@@ -9,3 +9,4 @@ pub mod Answering
 pub mod Keeping
 pub mod Meeting
 pub mod Memories
+pub mod DemandThree

@@ -24,13 +24,14 @@ use Rattle.packet_cipher.proofs.Crypting.{and-left, and-right}
 use Rattle.session.specs.Making.{keysOf, idsOf, makeOf}
 use Rattle.session.specs.Adding.{addOf}
 use Rattle.session.specs.Packets.{Answer, protectEffect, unprotectEffect, protectOf, unprotectOf}
-use Rattle.theorems.specs.Lists.{sender, receiver, Call, add, protect, unprotect, Bytes}
-use Rattle.theorems.specs.Sent.{Sent, noneSent, sentFrom, noPacket, added, noEvent, SentAs, SentUnderItsIndex}
-use Rattle.theorems.specs.Arrivals.{Mark, Arrival, arrivalsOf, othersOf, Carries, Premises, Right, AsTheLedger, ArrivalsFollowTheLedger}
+use Rattle.theorems.specs.Lists.{sender, receiver, Call, add, protect, unprotect, added, noEvent, Bytes}
+use Rattle.theorems.specs.Sent.{Sent, noneSent, sentFrom, noPacket, SentAs, SentUnderItsIndex}
+use Rattle.theorems.specs.Arrivals.{Mark, Arrival, arrivalsOf, othersOf, Carries, Premises, Right, AsTheLedger}
+use Rattle.theorems.specs.DemandThree.{DemandThree}
 use Rattle.theorems.specs.Example.{key, salt, voice, drums, calls, events, wire, sentAs, voice0, voice1, voice2, voice3, voice4, drums0, wrongVersion, voiceSent, drumsSent, marked, voiceMarks, drumsMarks, PremisesAreMet, answerAt, HollowProgramsDiffer}
 use Rattle.theorems.proofs.Records.{clash}
 use Rattle.theorems.proofs.Sending.{sent-under-its-index}
-use Rattle.theorems.proofs.Arriving.{follow}
+use Rattle.theorems.proofs.DemandThree.{demand-three}
 
 -- ---- bytes
 
@@ -106,7 +107,7 @@ adds-drums = (refl, refl)
 under-index : (x rollover i : ℕ) → rollover < 2 ^ 32 → getD events i noEvent ≡ added sender x Sending rollover
     → Each (SentAs key salt 2 [] x) (sentFrom x rollover noneSent events)
 unfolding SentUnderItsIndex
-under-index x rollover i large q = sent-under-its-index key salt 2 [] calls bytes x rollover i large q
+under-index x rollover i large q = sent-under-its-index key salt 2 [] [] calls bytes x rollover i large q
 
 pub sent : voiceSent ≡ sentFrom voice 0 noneSent events
 sent =
@@ -206,8 +207,8 @@ numbered policy l held (a ∷ rest) (e, f, g) = ap₂ (λ (n : ℕ) (ns : List �
 followed : (x rollover i j : ℕ) → rollover < 2 ^ 32 → getD events i noEvent ≡ added sender x Sending rollover → getD events j noEvent ≡ added receiver x Receiving rollover
     → (l : List Sent) → l ≡ sentFrom x rollover noneSent events → (marks : ℕ → Mark) → Premises x rollover l marks (drop (suc j) events)
     → AsTheLedger CryptexRequired l [] (arrivalsOf marks (drop (suc j) events))
-unfolding ArrivalsFollowTheLedger
-followed x rollover i j large there here l e marks p = follow key salt 2 [] calls bytes x rollover i j large there here l e marks p
+unfolding DemandThree
+followed x rollover i j large there here l e marks p = demand-three key salt 2 [] [] (λ id a b. refl) calls .ledger bytes x rollover i j large there here l e marks p
 
 pub premises-are-met : PremisesAreMet
 premises-are-met =

@@ -1,5 +1,5 @@
 -- Lists of calls on two memories.
-use mathlib.Core.Path.{_≡_, refl, sym, ap, ap₂, subst, _∙_}
+use mathlib.Core.Path.{_≡_, refl, ap, ap₂, _∙_}
 use mathlib.Core.List.{List, [], _∷_}
 use Prim.Native.Nat.{ℕ}
 use borrow.Author.Tests.{eq-eqb}
@@ -13,10 +13,8 @@ use Rattle.session.specs.Packets.{Answer}
 use Rattle.session.specs.Calls.{addCall}
 use Rattle.session.specs.Memory.{size, decode}
 use Rattle.session.proofs.Decoding.{Holds, protect-answers, protect-holds, unprotect-answers, unprotect-holds, added-holds}
-use Rattle.theorems.specs.Lists.{End, sender, receiver, Call, add, protect, unprotect, endOf, Sessions, sessionAt, withSession, addOutcome, outcomeOf, answerOf, next, Event, event, eventsOf, after}
-use Rattle.theorems.specs.Arrivals.{EventsFollowTheLedger, ArrivalsFollowTheLedger}
-use Rattle.theorems.specs.Memories.{Memories, memoryAt, withMemory, wayNumber, leftBy, nextIn, eventsIn, afterIn, decoded, Sized, Words32, AnswersAsSessions, ArrivalsInMemory}
-use Rattle.theorems.proofs.Arriving.{follow}
+use Rattle.theorems.specs.Lists.{End, sender, receiver, Call, add, protect, unprotect, endOf, Sessions, sessionAt, withSession, addOutcome, outcomeOf, answerOf, next, event, Run, run}
+use Rattle.theorems.specs.Memories.{Memories, memoryAt, withMemory, wayNumber, leftBy, nextIn, decoded, runIn, Sized, Words32, AnswersAsSessions}
 
 -- ---- one call
 
@@ -74,24 +72,14 @@ module _ (m : Memories) (s : Sized m) (c : Call) (w : Words32 c) where
   same-answer : leftBy (memoryAt (endOf c) m) c .answer ≡ answerOf (decoded m) c
   same-answer = answers (memoryAt (endOf c) m) (sized-at (endOf c) m s) c ∙ ap (λ (t : Session). outcomeOf t c .answer) (at-end (endOf c) m)
 
-same-events : (m : Memories) → Sized m → (calls : List Call) → Each Words32 calls → eventsIn m calls ≡ eventsOf (decoded m) calls
-same-events m s [] w = refl
-same-events m s (c ∷ calls) w =
-    ap₂ (λ (a : Answer) (l : List Event). event c a ∷ l) (same-answer m s c (w .0))
-    (same-events (nextIn m c) (next-sized m s c (w .0)) calls (w .1) ∙ ap (λ (t : Sessions). eventsOf t calls) (next-decoded m s c (w .0)))
+-- ---- the claim
 
-same-sessions : (m : Memories) → Sized m → (calls : List Call) → Each Words32 calls → decoded (afterIn m calls) ≡ after (decoded m) calls
-same-sessions m s [] w = refl
-same-sessions m s (c ∷ calls) w =
-    same-sessions (nextIn m c) (next-sized m s c (w .0)) calls (w .1) ∙ ap (λ (t : Sessions). after t calls) (next-decoded m s c (w .0))
-
--- ---- the claims
+same-run : (m : Memories) → Sized m → (calls : List Call) → Each Words32 calls → runIn m calls ≡ run (decoded m) calls
+same-run m s [] w = refl
+same-run m s (c ∷ calls) w =
+    ap₂ (λ (a : Answer) (r : Run). record { events = event c a ∷ r .events; sessions = r .sessions }) (same-answer m s c (w .0))
+    (same-run (nextIn m c) (next-sized m s c (w .0)) calls (w .1) ∙ ap (λ (t : Sessions). run t calls) (next-decoded m s c (w .0)))
 
 pub answer-as-sessions : AnswersAsSessions
-answer-as-sessions = record { events = same-events; sessions = same-sessions }
-
-pub arrivals-in-memory : ArrivalsInMemory
-unfolding ArrivalsInMemory ArrivalsFollowTheLedger
-arrivals-in-memory key salt policy ids m s made calls w b =
-    subst (λ (es : List Event). EventsFollowTheLedger policy es) (sym (same-events m s calls w ∙ ap (λ (t : Sessions). eventsOf t calls) made))
-    (follow key salt policy ids calls b)
+unfolding AnswersAsSessions
+answer-as-sessions = same-run

@@ -30,8 +30,8 @@ use Rattle.session.specs.Session.{Record, Setup, Session, Made}
 use Rattle.session.specs.Records.{some, withReplay, storeFor, freshRecord}
 use Rattle.session.specs.Making.{setupOf, sessionOf, notMade, makeOf}
 use Rattle.session.specs.Packets.{tagLength, listedBy, Effect, refuse, give, wireLength, protectEffect, Outcome, settled, protectOf, unprotectOf}
-use Rattle.theorems.specs.Lists.{sender, receiver, Call, add, protect, unprotect, Sessions, justMade, Event, eventsOf, Bytes}
-use Rattle.theorems.specs.Sent.{Sent, Last, noneSent, lastSent, indexOf, sentBy, sentFrom, added, noEvent, SentAs, SentUnderItsIndex}
+use Rattle.theorems.specs.Lists.{sender, receiver, Call, add, protect, unprotect, Sessions, justMade, Event, added, noEvent, eventsOf, Bytes}
+use Rattle.theorems.specs.Sent.{Sent, Last, noneSent, lastSent, indexOf, sentBy, sentFrom, SentAs, SentUnderItsIndex}
 use Rattle.theorems.proofs.Records.{clash, found-stored}
 use Rattle.theorems.proofs.Settling.{Given, given}
 use Rattle.theorems.proofs.Holding.{protectDone, unprotectDone, Holds, holds-add, holds-settled, Behind, behind-add, nothing-before}
@@ -226,13 +226,13 @@ module _ (key salt : List ℕ) (policy : ℕ) (ids : List ℕ) where
       go false true m = clash false m refl
       go false false m = refl
 
-  pub all-sent : (calls : List Call) → Each Bytes calls → (x rollover i : ℕ) → rollover < 2 ^ 32
-      → getD (eventsOf (justMade key salt policy ids) calls) i noEvent ≡ added sender x Sending rollover
-      → Each (Good setup x) (sentFrom x rollover noneSent (eventsOf (justMade key salt policy ids) calls))
-  all-sent calls bytes x rollover i large q =
-      rw (nothing-before x rollover calls (justMade key salt policy ids) i noneSent q)
-      (sent-good setup x rollover large (drop (suc i) (eventsOf (justMade key salt policy ids) calls))
-      (behind-add setup sender x Sending rollover calls bytes (justMade key salt policy ids) i refl q))
+  pub all-sent : (others : List ℕ) (calls : List Call) → Each Bytes calls → (x rollover i : ℕ) → rollover < 2 ^ 32
+      → getD (eventsOf (justMade key salt policy ids others) calls) i noEvent ≡ added sender x Sending rollover
+      → Each (Good setup x) (sentFrom x rollover noneSent (eventsOf (justMade key salt policy ids others) calls))
+  all-sent others calls bytes x rollover i large q =
+      rw (nothing-before x rollover calls (justMade key salt policy ids others) i noneSent q)
+      (sent-good setup x rollover large (drop (suc i) (eventsOf (justMade key salt policy ids others) calls))
+      (behind-add setup sender x Sending rollover calls bytes (justMade key salt policy ids others) i refl q))
 
   sent-as : (x : ℕ) → setup .made ≡ true → (l : List Sent) → Each (Good setup x) l → Each (SentAs key salt policy ids x) l
   sent-as x made [] g = tt
@@ -241,8 +241,8 @@ module _ (key salt : List ℕ) (policy : ℕ) (ids : List ℕ) where
 
 pub sent-under-its-index : SentUnderItsIndex
 unfolding SentUnderItsIndex
-sent-under-its-index key salt policy ids calls bytes x rollover i large q =
+sent-under-its-index key salt policy ids others calls bytes x rollover i large q =
     sent-as key salt policy ids x
-    (behind-add (setup key salt policy ids) sender x Sending rollover calls bytes (justMade key salt policy ids) i refl q .made)
-    (sentFrom x rollover noneSent (eventsOf (justMade key salt policy ids) calls))
-    (all-sent key salt policy ids calls bytes x rollover i large q)
+    (behind-add (setup key salt policy ids) sender x Sending rollover calls bytes (justMade key salt policy ids others) i refl q .made)
+    (sentFrom x rollover noneSent (eventsOf (justMade key salt policy ids others) calls))
+    (all-sent key salt policy ids others calls bytes x rollover i large q)

@@ -1,4 +1,5 @@
--- Demand 3: whichever of a stream's packets are lost, repeated or out of order, each that arrives is given back right or refused, as the ledger says.
+-- Demand 3, its first half: whichever of a stream's packets are lost, repeated or out of order, each that arrives is given back right or refused, as the
+-- ledger says.
 use mathlib.Core.Path.{_≡_}
 use mathlib.Core.Bool.{true, false}
 use mathlib.Core.List.{List, [], _∷_, _++_}
@@ -14,8 +15,8 @@ use Rattle.policies.specs.declared.policy.Way.the-variants.{Sending, Receiving}
 use Rattle.policies.specs.Cryptex.{addsBlock}
 use Rattle.session.specs.Making.{policyOf}
 use Rattle.session.specs.Packets.{Answer}
-use Rattle.theorems.specs.Lists.{sender, receiver, Call, add, protect, unprotect, justMade, Event, event, eventsOf, Bytes}
-use Rattle.theorems.specs.Sent.{Sent, noneSent, sentFrom, noPacket, added, noEvent}
+use Rattle.theorems.specs.Lists.{sender, receiver, Call, add, protect, unprotect, Event, event, added, noEvent}
+use Rattle.theorems.specs.Sent.{Sent, noneSent, sentFrom, noPacket}
 
 -- ---- what arrives
 
@@ -98,17 +99,11 @@ AsTheLedger policy sent held (a ∷ l) =
 
 -- In these events: for every stream that is added at both ends with equal starting rollover, in call i to send at the sender's and in call j to receive
 -- at the receiver's, and every marking of the calls after j that meets the premises, each arrival is as the ledger says.
-abbrev pub EventsFollowTheLedger : ℕ → List Event → Type 0
-EventsFollowTheLedger policy events =
+abbrev pub ArrivalsFollowTheLedger : ℕ → List Event → Type 0
+ArrivalsFollowTheLedger policy events =
     (ssrc rollover i j : ℕ) → rollover < 2 ^ 32
     → getD events i noEvent ≡ added sender ssrc Sending rollover
     → getD events j noEvent ≡ added receiver ssrc Receiving rollover
     → (sent : List Sent) → sent ≡ sentFrom ssrc rollover noneSent events
     → (marks : ℕ → Mark) → Premises ssrc rollover sent marks (drop (suc j) events)
     → AsTheLedger (policyOf policy) sent [] (arrivalsOf marks (drop (suc j) events))
-
--- For every list of calls on two sessions just made from equal arguments (equal sets of ids make equal sessions: `EqualSetsEqualSessions`).
-unfoldable pub ArrivalsFollowTheLedger : Type 0
-ArrivalsFollowTheLedger =
-    (key salt : List ℕ) (policy : ℕ) (ids : List ℕ) (calls : List Call) → Each Bytes calls
-    → EventsFollowTheLedger policy (eventsOf (justMade key salt policy ids) calls)

@@ -11,9 +11,9 @@ use Rattle.policies.specs.declared.policy.Way.the-variants.{Sending, Receiving}
 use Rattle.wire.specs.Wire.{wireOf}
 use Rattle.session.specs.Making.{keysOf, idsOf}
 use Rattle.session.specs.Packets.{Answer}
-use Rattle.theorems.specs.Lists.{sender, receiver, Call, add, protect, unprotect, justMade, Event, event, eventsOf, Bytes}
+use Rattle.theorems.specs.Lists.{sender, receiver, Call, add, protect, unprotect, justMade, Event, answerIn, callIn, added, noEvent, eventsOf, Bytes}
 use Rattle.theorems.specs.Answers.{bufferOf}
-use Rattle.theorems.specs.Sent.{Sent, noneSent, sentFrom, added, noEvent}
+use Rattle.theorems.specs.Sent.{Sent, noneSent, sentFrom}
 use Rattle.theorems.specs.Arrivals.{Mark, unmarked, carries, Arrival, arrivalsOf, Premises}
 
 abbrev pub key : List ℕ
@@ -86,7 +86,7 @@ calls =
     ∷ []
 
 abbrev pub events : List Event
-events = eventsOf (justMade key salt 2 []) calls
+events = eventsOf (justMade key salt 2 [] []) calls
 
 -- which packet arrives in the calls after the receiver's add: of the voice from call 2 on, of the drums from call 4 on
 abbrev pub marked : List Mark → ℕ → Mark
@@ -117,23 +117,17 @@ pub record PremisesAreMet : Type 0 where
   pub sent-drums : drumsSent ≡ sentFrom drums 7 noneSent events
   pub met : Premises voice 0 voiceSent (marked voiceMarks) (drop 2 events)
   pub met-drums : Premises drums 7 drumsSent (marked drumsMarks) (drop 4 events)
-  -- so, by `ArrivalsFollowTheLedger`, these are the numbers: given back, given back, late and given back, repeated, given back, old
+  -- so, by `DemandThree`, these are the numbers: given back, given back, late and given back, repeated, given back, old
   pub numbers : map (λ (a : Arrival). a .answer .number) (arrivalsOf (marked voiceMarks) (drop 2 events)) ≡ 0 ∷ 0 ∷ 0 ∷ 13 ∷ 0 ∷ 12 ∷ []
   pub numbers-drums : map (λ (a : Arrival). a .answer .number) (arrivalsOf (marked drumsMarks) (drop 4 events)) ≡ 0 ∷ []
 
 -- ---- and hollow programs would answer otherwise
 
-abbrev pub answerIn : Event → Answer
-answerIn (event c a) = a
-
-abbrev pub bufferIn : Event → List ℕ
-bufferIn (event c a) = bufferOf c
-
 abbrev pub answerAt : ℕ → Answer
 answerAt k = answerIn (getD events k noEvent)
 
 abbrev pub bufferAt : ℕ → List ℕ
-bufferAt k = bufferIn (getD events k noEvent)
+bufferAt k = bufferOf (callIn (getD events k noEvent))
 
 -- Calls 4 and 7 send, and in calls 10 and 11 arrive, the voice's packets 0 and 2, of 19 and 22 bytes.
 pub record HollowProgramsDiffer : Type 0 where

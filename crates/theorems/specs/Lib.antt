@@ -5,5 +5,6 @@ pub mod Sent
 pub mod Arrivals
 pub mod Places
 pub mod Memories
+pub mod DemandThree
 pub mod Sums
 pub mod Example

@@ -1,8 +1,11 @@
 -- Document 01, "Lists of calls in demand 3": calls on a sender's and a receiver's session. "Each call gets its session as the last call on it left it."
+use mathlib.Core.Path.{_≡_}
 use mathlib.Core.List.{List, [], _∷_}
 use Prim.Native.Nat.{ℕ, _<_}
 use lib.ListN.{getD}
+use Rattle.rtp_elements.specs.Mask.{among}
 use Rattle.policies.specs.declared.policy.Way.{Way}
+use Rattle.policies.specs.declared.policy.Way.the-variants.{Sending}
 use Rattle.session.specs.Session.{Session, Made}
 use Rattle.session.specs.Making.{makeOf}
 use Rattle.session.specs.Adding.{addOf}
@@ -36,9 +39,13 @@ abbrev pub withSession : End → Sessions → Session → Sessions
 withSession sender s t = record { atSender = t; atReceiver = s .atReceiver }
 withSession receiver s t = record { atSender = s .atSender; atReceiver = t }
 
--- "Both sessions start just made, with equal master key, master salt, policy and set."
-abbrev pub justMade : List ℕ → List ℕ → ℕ → List ℕ → Sessions
-justMade key salt policy ids = record { atSender = makeOf key salt policy ids .session; atReceiver = makeOf key salt policy ids .session }
+-- "Both sessions start just made, with equal master key, master salt, policy and set.": the sender's from a list of ids, the receiver's from another
+abbrev pub justMade : List ℕ → List ℕ → ℕ → List ℕ → List ℕ → Sessions
+justMade key salt policy ids others = record { atSender = makeOf key salt policy ids .session; atReceiver = makeOf key salt policy others .session }
+
+-- two lists of the same ids from 1 to 255: order, repeats and 0 do not matter, and no byte is above 255
+abbrev pub EqualSets : List ℕ → List ℕ → Type 0
+EqualSets ids others = (id : ℕ) → 0 < id → id < 256 → among ids id ≡ among others id
 
 -- ---- one call
 
@@ -62,6 +69,19 @@ next s c = withSession (endOf c) s (outcomeOf (sessionAt (endOf c) s) c .session
 -- a call and its answer
 pub data Event : Type 0 where
   event : Call → Answer → Event
+
+abbrev pub callIn : Event → Call
+callIn (event c a) = c
+
+abbrev pub answerIn : Event → Answer
+answerIn (event c a) = a
+
+-- the event of an add with a result; and what is read past the end of the events: a refused add, so that it is never taken for one
+abbrev pub added : End → ℕ → Way → ℕ → Event
+added e ssrc way rollover = event (add e ssrc way rollover) (record { number = 0; length = 0; buffer = [] })
+
+abbrev pub noEvent : Event
+noEvent = event (add sender 0 Sending 0) (record { number = 15; length = 0; buffer = [] })
 
 abbrev pub eventsOf : Sessions → List Call → List Event
 eventsOf s [] = []

@@ -1,4 +1,4 @@
--- Demand 3 for the calls on lent memory: a list of calls on two memories is answered as the list of calls on the two sessions that they hold.
+-- Lists of calls on lent memory, which are the calls: two memories answer as the two sessions that they hold.
 use mathlib.Core.Path.{_≡_}
 use mathlib.Core.List.{List, [], _∷_}
 use Prim.Native.Nat.{ℕ, _^_, _<_}
@@ -8,8 +8,7 @@ use Rattle.policies.specs.declared.policy.Way.{Way}
 use Rattle.policies.specs.declared.policy.Way.the-variants.{Sending, Receiving}
 use Rattle.session.specs.Calls.{Left, addCall, protectCall, unprotectCall}
 use Rattle.session.specs.Memory.{size, decode}
-use Rattle.theorems.specs.Lists.{End, sender, receiver, Call, add, protect, unprotect, endOf, Sessions, justMade, Event, event, eventsOf, after, Bytes}
-use Rattle.theorems.specs.Arrivals.{EventsFollowTheLedger}
+use Rattle.theorems.specs.Lists.{End, sender, receiver, Call, add, protect, unprotect, endOf, Sessions, Event, event, Run, run}
 
 -- ---- a list of calls on two memories
 
@@ -38,7 +37,7 @@ leftBy words (unprotect e buf n) = unprotectCall words buf n
 abbrev pub nextIn : Memories → Call → Memories
 nextIn m c = withMemory (endOf c) m (leftBy (memoryAt (endOf c) m) c .words)
 
--- each call with its answer, and both memories afterwards
+-- each call with its answer, both memories afterwards
 abbrev pub eventsIn : Memories → List Call → List Event
 eventsIn m [] = []
 eventsIn m (c ∷ calls) = event c (leftBy (memoryAt (endOf c) m) c .answer) ∷ eventsIn (nextIn m c) calls
@@ -47,10 +46,15 @@ abbrev pub afterIn : Memories → List Call → Memories
 afterIn m [] = m
 afterIn m (c ∷ calls) = afterIn (nextIn m c) calls
 
--- ---- the claims
-
+-- the sessions that two memories hold
 abbrev pub decoded : Memories → Sessions
 decoded m = record { atSender = decode (m .atSender); atReceiver = decode (m .atReceiver) }
+
+-- every answer, in order, and the sessions that both memories hold afterwards
+abbrev pub runIn : Memories → List Call → Run
+runIn m calls = record { events = eventsIn m calls; sessions = decoded (afterIn m calls) }
+
+-- ---- the claim
 
 pub record Sized (m : Memories) : Type 0 where
   pub atSender : length (m .atSender) ≡ size
@@ -63,13 +67,5 @@ Words32 (protect e buf n) = Unit {0}
 Words32 (unprotect e buf n) = Unit {0}
 
 -- For any two memories, whatever they hold: every answer, and both sessions afterwards.
-pub record AnswersAsSessions : Type 0 where
-  pub events : (m : Memories) → Sized m → (calls : List Call) → Each Words32 calls → eventsIn m calls ≡ eventsOf (decoded m) calls
-  pub sessions : (m : Memories) → Sized m → (calls : List Call) → Each Words32 calls → decoded (afterIn m calls) ≡ after (decoded m) calls
-
--- `ArrivalsFollowTheLedger`, of two memories that make (`making::make::make`) made from equal arguments (its contract says what they decode to)
-unfoldable pub ArrivalsInMemory : Type 0
-ArrivalsInMemory =
-    (key salt : List ℕ) (policy : ℕ) (ids : List ℕ) (m : Memories) → Sized m → decoded m ≡ justMade key salt policy ids
-    → (calls : List Call) → Each Words32 calls → Each Bytes calls
-    → EventsFollowTheLedger policy (eventsIn m calls)
+unfoldable pub AnswersAsSessions : Type 0
+AnswersAsSessions = (m : Memories) → Sized m → (calls : List Call) → Each Words32 calls → runIn m calls ≡ run (decoded m) calls

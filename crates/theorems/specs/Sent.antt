@@ -9,12 +9,11 @@ use Rattle.bits.specs.Pick.{pick}
 use Rattle.bits.specs.Lists.{Each}
 use Rattle.rtp_header.specs.Header.{seqOf, ssrcOf}
 use Rattle.rtp_elements.specs.Mask.{listedIn}
-use Rattle.policies.specs.declared.policy.Way.{Way}
 use Rattle.policies.specs.declared.policy.Way.the-variants.{Sending}
 use Rattle.wire.specs.Wire.{wireOf}
 use Rattle.session.specs.Making.{keysOf, idsOf, policyOf}
 use Rattle.session.specs.Packets.{Answer}
-use Rattle.theorems.specs.Lists.{End, sender, receiver, Call, add, protect, unprotect, justMade, Event, event, eventsOf, Bytes}
+use Rattle.theorems.specs.Lists.{sender, receiver, Call, add, protect, unprotect, justMade, Event, event, added, noEvent, eventsOf, Bytes}
 
 -- a packet that was sent: its index, the packet that was handed to protect, the protected packet
 pub record Sent : Type 0 where
@@ -50,13 +49,6 @@ sentFrom ssrc rollover last (event (unprotect e buf n) a ∷ es) = sentFrom ssrc
 abbrev pub noPacket : Sent
 noPacket = record { index = 0; packet = []; wire = [] }
 
--- the event of an add with a result; and what is read past the end of the events: a refused add, so that it is never taken for one
-abbrev pub added : End → ℕ → Way → ℕ → Event
-added e ssrc way rollover = event (add e ssrc way rollover) (record { number = 0; length = 0; buffer = [] })
-
-abbrev pub noEvent : Event
-noEvent = event (add sender 0 Sending 0) (record { number = 15; length = 0; buffer = [] })
-
 -- ---- the claim
 
 -- The bytes sent are the standards', under the stream's SSRC and the index of the rule above: the index that protect used.
@@ -69,7 +61,7 @@ pub record SentAs (key salt : List ℕ) (policy : ℕ) (ids : List ℕ) (x : ℕ
 -- for every list of calls, and every stream that it adds to send in the sender's session, in call i
 unfoldable pub SentUnderItsIndex : Type 0
 SentUnderItsIndex =
-    (key salt : List ℕ) (policy : ℕ) (ids : List ℕ) (calls : List Call) → Each Bytes calls
+    (key salt : List ℕ) (policy : ℕ) (ids others : List ℕ) (calls : List Call) → Each Bytes calls
     → (ssrc rollover i : ℕ) → rollover < 2 ^ 32
-    → getD (eventsOf (justMade key salt policy ids) calls) i noEvent ≡ added sender ssrc Sending rollover
-    → Each (SentAs key salt policy ids ssrc) (sentFrom ssrc rollover noneSent (eventsOf (justMade key salt policy ids) calls))
+    → getD (eventsOf (justMade key salt policy ids others) calls) i noEvent ≡ added sender ssrc Sending rollover
+    → Each (SentAs key salt policy ids ssrc) (sentFrom ssrc rollover noneSent (eventsOf (justMade key salt policy ids others) calls))

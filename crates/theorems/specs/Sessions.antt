@@ -9,7 +9,7 @@ use Rattle.rtp_elements.specs.Mask.{among, listedIn}
 use Rattle.session.specs.Session.{Record, Session}
 use Rattle.session.specs.Records.{isFree, hasSsrc}
 use Rattle.session.specs.Making.{keysOf, idsOf, unmade, sessionOf, makeOf}
-use Rattle.theorems.specs.Lists.{End, Call, sessionAt, justMade, outcomeOf, after}
+use Rattle.theorems.specs.Lists.{End, Call, sessionAt, justMade, EqualSets, outcomeOf, after}
 
 -- no SSRC twice
 abbrev pub NoSsrcTwice : List Record → Type 0
@@ -30,12 +30,11 @@ pub record SessionsAreSound : Type 0 where
   -- no call changes what a session was made from
   pub setup : (s : Session) (c : Call) → outcomeOf s c .session .setup ≡ s .setup
   -- so it holds after every list of calls
-  pub always : (key salt : List ℕ) (policy : ℕ) (ids : List ℕ) (calls : List Call) (e : End) → Sound (sessionAt e (after (justMade key salt policy ids) calls))
+  pub always : (key salt : List ℕ) (policy : ℕ) (ids others : List ℕ) (calls : List Call) (e : End) → Sound (sessionAt e (after (justMade key salt policy ids others) calls))
 
--- Equal sets of ids give equal sessions: order, repeats and 0 do not matter, and no byte is above 255.
+-- Equal sets of ids give equal sessions.
 pub record EqualSetsEqualSessions : Type 0 where
-  pub equal : (key salt : List ℕ) (policy : ℕ) (ids others : List ℕ) → ((id : ℕ) → 0 < id → id < 256 → among ids id ≡ among others id)
-      → makeOf key salt policy ids ≡ makeOf key salt policy others
+  pub equal : (key salt : List ℕ) (policy : ℕ) (ids others : List ℕ) → EqualSets ids others → makeOf key salt policy ids ≡ makeOf key salt policy others
 
 -- The four words that a session keeps are its set of ids: those from 1 to 255 in the list.
 pub record WordsAreTheSet : Type 0 where

@@ -1,9 +1,8 @@
 // Demands 1 to 3 over lists of calls, on sessions and on the memory that holds them; what holds of every session; and document 01's sums.
 ghost use Rattle.theorems.specs.Answers.{OneAnswerEach};
-ghost use Rattle.theorems.specs.Arrivals.{ArrivalsFollowTheLedger};
+ghost use Rattle.theorems.specs.DemandThree.{DemandThree, DemandThreeInMemory};
 ghost use Rattle.theorems.specs.Example.{PremisesAreMet, HollowProgramsDiffer};
-ghost use Rattle.theorems.specs.Memories.{AnswersAsSessions, ArrivalsInMemory};
-ghost use Rattle.theorems.specs.Places.{NeighboursChangePlaces};
+ghost use Rattle.theorems.specs.Memories.{AnswersAsSessions};
 ghost use Rattle.theorems.specs.Sent.{SentUnderItsIndex};
 ghost use Rattle.theorems.specs.Sums.{SumsHold};
 ghost use Rattle.theorems.specs.Sessions.{SessionsAreSound, EqualSetsEqualSessions, WordsAreTheSet};
@@ -33,14 +32,10 @@ pub fn packets_are_sent_under_their_index()
     ensures { λ _. ⌜ SentUnderItsIndex ⌝ }
 {}
 
-// Demand 3: each arrival of a stream is given back right, or refused as old or repeated, as the ledger says.
-pub fn arrivals_follow_the_ledger()
-    ensures { λ _. ⌜ ArrivalsFollowTheLedger ⌝ }
-{}
-
-// Demand 3: two neighbouring packet calls for different streams can change places.
-pub fn neighbours_change_places()
-    ensures { λ _. ⌜ NeighboursChangePlaces ⌝ }
+// Demand 3: each arrival of a stream is given back right, or refused as old or repeated, as the ledger says; and two neighbouring packet calls for
+// different streams can change places.
+pub fn demand_three_holds()
+    ensures { λ _. ⌜ DemandThree ⌝ }
 {}
 
 // Calls on memory are answered as calls on the sessions that it holds, over whole lists.
@@ -49,8 +44,8 @@ pub fn memories_answer_as_sessions()
 {}
 
 // Demand 3 for the calls on lent memory.
-pub fn arrivals_follow_the_ledger_in_memory()
-    ensures { λ _. ⌜ ArrivalsInMemory ⌝ }
+pub fn demand_three_holds_in_memory()
+    ensures { λ _. ⌜ DemandThreeInMemory ⌝ }
 {}
 
 // Document 01's sums, G1 to G7, S1, S2 and M1 to M4.
