@@ -63,3 +63,9 @@ other-length [] [] h = absurd (h refl)
 other-length [] (y ∷ b) h = refl
 other-length (x ∷ a) [] h = refl
 other-length (x ∷ a) (y ∷ b) h = and-none (eqb x y) (sameOf a b) (other-length a b (λ e. h (ap suc e)))
+
+-- a tag is the same as itself
+pub same-itself : (a : List ℕ) → sameOf a a ≡ true
+unfolding sameOf
+same-itself [] = refl
+same-itself (x ∷ a) = rw (eq-eqb x x refl) (same-itself a)

@@ -19,11 +19,12 @@ use Rattle.policies.specs.declared.policy.Way.the-variants.{Receiving}
 use Rattle.policies.specs.Cryptex.{untaggedOf}
 use Rattle.policies.specs.Judging.{elementsFit, judgedOf}
 use Rattle.policies.specs.Policies.{usesMask}
-use Rattle.wire.specs.Wire.{restoreBy, tagOf, restoreOf, tagFits}
+use Rattle.wire.specs.Wire.{restoreOf, tagFits}
 use Rattle.packet_cipher.specs.Cipher.{cipherOf}
 use Rattle.policies.proofs.Layouts.{sound, layout-same}
 use Rattle.cryptex.proofs.Raising.{drop-take}
 use Rattle.wire.proofs.RoundTrips.{Passed, append-block}
+use Rattle.wire.proofs.Wires.{tag-code, tag-compared, restore-is}
 use Rattle.wire.proofs.Tagging.{judged-layout, judged-passed}
 
 module _ (policy : Policy) (t : ℕ) (l : List ℕ) (n : ℕ) (h : Layout) (inside : n ≤ length l) (e : judgedOf Receiving policy t (take n l) ≡ Read h) where
@@ -80,21 +81,20 @@ module _ (policy : Policy) (t : ℕ) (l : List ℕ) (n : ℕ) (h : Layout) (insi
   -- as the code has it: the code over the body, its first t bytes beside the packet's last
   pub tag-fits : (keys : Keys) (index : ℕ) (code : List ℕ) → code ≡ macOf (keys .auth) (take (n - t - 0) (drop 0 l) ++ toBytes 4 (index / 2 ^ 16))
       → sameOf (take (t - 0) (drop 0 code)) (take (n - (n - t)) (drop (n - t) l)) ≡ tagFits t keys index (take n l)
-  unfolding tagFits tagOf
   tag-fits keys index code c =
       let z : t - 0 ≡ t = omega arith in
       let y : n - t - 0 ≡ n - t = omega arith in
-      let b : code ≡ macOf (keys .auth) (take (n - t) l ++ toBytes 4 (index / 2 ^ 16)) = rw y at c in
       let w : drop (length (take n l) - t) (take n l) ≡ take (n - (n - t)) (drop (n - t) l)
       = ap (λ (k : ℕ). drop (k - t) (take n l)) count ∙ drop-take (n - t) n l in
-      ap₂ sameOf (ap (λ (k : ℕ). take k code) z ∙ ap (take t) (b ∙ ap (λ (m : List ℕ). macOf (keys .auth) (m ++ toBytes 4 (index / 2 ^ 16))) (sym body-is))) (sym w)
+      tag-compared t keys index (take n l) (take (t - 0) (drop 0 code)) (take (n - (n - t)) (drop (n - t) l))
+      (ap (λ (k : ℕ). take k code) z ∙ tag-code t keys index (take (length (take n l) - t) (take n l)) code (rw (y, ← body-is) at c)) (sym w)
 
   pub restored : (keys : Keys) (listed : ℕ → Bool) (ssrc index : ℕ) (ys : List ℕ)
       → ys ≡ untaggedOf policy (cipherOf keys policy listed ssrc index (take (n - t - 0) (drop 0 l)))
       → ys ++ drop (n - t - 0) (drop 0 l) ≡ restoreOf t keys policy listed ssrc index (take n l) ++ drop (n - t) l
-  unfolding restoreOf restoreBy
   restored keys listed ssrc index ys q =
       let y : n - t - 0 ≡ n - t = omega arith in
       ap₂ (λ (u v : List ℕ). u ++ v)
-      (q ∙ ap (λ (b : List ℕ). untaggedOf policy (cipherOf keys policy listed ssrc index b)) (ap (λ (k : ℕ). take k l) y ∙ sym body-is))
+      (q ∙ ap (λ (b : List ℕ). untaggedOf policy (cipherOf keys policy listed ssrc index b)) (ap (λ (k : ℕ). take k l) y ∙ sym body-is)
+      ∙ sym (restore-is t keys index policy listed ssrc (take n l)))
       (ap (λ (k : ℕ). drop k l) y)

@@ -16,12 +16,13 @@ use Rattle.packet_cipher.specs.declared.keys.Keys.{Keys}
 use Rattle.policies.specs.declared.policy.Policy.{Policy}
 use Rattle.policies.specs.declared.policy.Way.the-variants.{Sending}
 use Rattle.policies.specs.Cryptex.{addsBlock, cryptexTag, written16, taggedOf}
-use Rattle.wire.specs.Wire.{givenBackOf, bodyBy, wireBy, tagOf, wireOf}
+use Rattle.wire.specs.Wire.{givenBackOf, bodyBy, tagOf, wireOf}
 use Rattle.policies.specs.Judging.{judgedOf}
 use Rattle.policies.specs.Policies.{usesCryptex}
 use Rattle.packet_cipher.specs.Cipher.{streamOf, headerStreamOf, cipherOf}
 use Rattle.packet_cipher.proofs.Crypting.{crypted-length}
 use Rattle.wire.proofs.Forms.{written-length}
+use Rattle.wire.proofs.Wires.{tag-code, wire-is}
 use Rattle.wire.proofs.Tagging.{count, small, not-added, is-added, grown}
 
 either-length : (t : Bool) (a b : List ℕ) → length a ≡ length b → length (pick t a b) ≡ length b
@@ -63,11 +64,11 @@ module _ (policy : Policy) (l : List ℕ) (n : ℕ) (h : Layout) (inside : n ≤
       -- the code over it, and its first ten bytes in their place
       pub sent : (code place : List ℕ) → code ≡ macOf (keys .auth) (take (m - 0) (drop 0 b) ++ toBytes 4 (index / 2 ^ 16)) → place ≡ take 10 code
           → take m b ++ (place ++ drop (m + 10 - m) (drop m b)) ≡ wireOf 10 keys policy listed ssrc index (take n l) ++ drop (m + 10) l
-      unfolding wireOf wireBy tagOf
       sent code place c q =
           let z : m + 10 - m ≡ 10 = omega arith in
-          let k : code ≡ macOf (keys .auth) (body ++ toBytes 4 (index / 2 ^ 16)) = rw body-front at c in
+          let k : take 10 code ≡ tagOf 10 keys index body = tag-code 10 keys index body code (rw body-front at c) in
           let g : drop m b ≡ drop m l = ap (drop m) eb ∙ drop-at body (drop m l) m (body-length ∙ sym em) in
           ap₂ (λ (u v : List ℕ). u ++ v) body-is
-          (ap₂ (λ (u v : List ℕ). u ++ v) (q ∙ ap (take 10) k) (ap₂ (λ (i : ℕ) (v : List ℕ). drop i v) z g ∙ drop-drop 10 m l))
-          ∙ sym (append-assoc body (take 10 (macOf (keys .auth) (body ++ toBytes 4 (index / 2 ^ 16)))) (drop (m + 10) l))
+          (ap₂ (λ (u v : List ℕ). u ++ v) (q ∙ k) (ap₂ (λ (i : ℕ) (v : List ℕ). drop i v) z g ∙ drop-drop 10 m l))
+          ∙ sym (append-assoc body (tagOf 10 keys index body) (drop (m + 10) l))
+          ∙ ap (λ (w : List ℕ). w ++ drop (m + 10) l) (sym (wire-is 10 keys index policy listed ssrc (take n l)))

@@ -126,6 +126,12 @@ crypted-twice policy listed stream header-stream p =
     (cryptedOf policy listed stream header-stream p) (λ i b. crypted-pad policy listed stream header-stream p i)
     ∙ pad-twice (padOf policy listed stream header-stream p) p
 
+-- policies 1 and 2 encrypt alike
+pub crypted-alike : (listed : ℕ → Bool) (stream header-stream : ℕ → ℕ) (p : List ℕ)
+    → cryptedOf CryptexRequired listed stream header-stream p ≡ cryptedOf Cryptex listed stream header-stream p
+unfolding cryptedOf padOf
+crypted-alike listed stream header-stream p = refl
+
 pub whole-by : (policy : Policy) (listed : ℕ → Bool) (stream header-stream : ℕ → ℕ) → usesMask policy ≡ true → (p : List ℕ)
     → wholeOf (layoutOf p .tag) (blockOf (layoutOf p) (cryptedOf policy listed stream header-stream p)) ≡ wholeOf (layoutOf p .tag) (blockOf (layoutOf p) p)
 whole-by Plain listed stream header-stream e p = apart cc

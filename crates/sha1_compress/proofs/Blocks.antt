@@ -29,7 +29,12 @@ word-drop l a i =
     λ j. getD-drop a l (i + j) 0 ∙ ap (λ (k : ℕ). getD l k 0) (sym (add-assoc a i j)) in
     cc (getD-drop a l i 0, g 1, g 2, g 3)
 
--- a turn of the loop that reads a block
+-- the loop that reads a block, before its first turn
+pub words-none : (b : List ℕ) (at : ℕ) → replicate 16 0 ≡ wordsIn 0 (drop at b) ++ replicate (16 - 0) 0
+unfolding wordsIn
+words-none b at = refl
+
+-- a turn of it
 pub word-more : (w b : List ℕ) (at i x : ℕ) → i < 16 → w ≡ wordsIn i (drop at b) ++ replicate (16 - i) 0 → x ≡ wordAt b (at + 4 * i)
     → set w i x ≡ wordsIn (i + 1) (drop at b) ++ replicate (16 - (i + 1)) 0
 unfolding wordsIn
@@ -44,7 +49,11 @@ pub words-all : (w b : List ℕ) (at i : ℕ) → i ≡ 16 → w ≡ wordsIn i (
 words-all w b at i e h =
     h ∙ ap (λ (k : ℕ). wordsIn k (drop at b) ++ replicate (16 - k) 0) e ∙ append-nil (wordsIn 16 (drop at b))
 
--- a turn of the loop over blocks
+-- the loop over blocks, before its first turn, and a turn of it
+pub blocks-none : (h b : List ℕ) → h ≡ blocksOf 0 h b
+unfolding blocksOf
+blocks-none h b = refl
+
 pub block-more : (h b s m u : List ℕ) (i : ℕ) → s ≡ blocksOf i h b → m ≡ wordsIn 16 (drop (64 * i) b) → u ≡ compressOf s m → u ≡ blocksOf (i + 1) h b
 unfolding blocksOf
 block-more h b s m u i es em eu = eu ∙ ap₂ compressOf es em ∙ ap (λ (k : ℕ). blocksOf k h b) (sym (add-one i))

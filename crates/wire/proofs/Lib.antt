@@ -1,3 +1,4 @@
 pub mod Forms
+pub mod Wires
 pub mod RoundTrips
 pub mod Tagging

@@ -2,18 +2,15 @@
 use mathlib.Core.Path.{_≡_, refl, ap, _∙_}
 use mathlib.Core.Bool.{Bool, true, false, not, _&&_, _||_}
 use mathlib.Core.Logic.{_⊎_, inl, inr}
-use mathlib.Core.List.{List, [], _∷_, _++_}
-use Prim.Native.Nat.{ℕ, _+_, _-_, _/_, _≤_, _<_, _^_}
+use mathlib.Core.List.{List, _++_}
+use Prim.Native.Nat.{ℕ, _+_, _-_, _/_, _≤_, _<_}
 use native.Mathlib.Omega.{arith}
 use borrow.Author.Tests.{le-ltb, ltb-false, eqb-true, eq-eqb, not-false}
 use lib.Dec.{ltb, eqb}
-use lib.ListN.{length, getD, take, drop, length-append, length-take, length-drop, List·getD-append}
-use lib.Seq.{take-at, drop-at, take-append-le, drop-append-le}
-use Rattle.bits.specs.BigEndian.{toBytes}
+use lib.ListN.{length, getD, take, drop, length-append, length-drop, List·getD-append}
+use lib.Seq.{take-at, take-append-le, drop-append-le}
 use Rattle.bits.specs.Pick.{pick}
 use Rattle.bits.specs.declared.refusal.Refusal.the-variants as refusal
-use Rattle.hmac.specs.Steps.{macOf}
-use Rattle.hmac.specs.Tag.{sameOf}
 use Rattle.rtp_header.specs.declared.header.Header.{Header}
 use Rattle.rtp_header.specs.declared.header.Header.the-variants.{Read, Refused}
 use Rattle.rtp_header.specs.declared.header.Layout.{Layout}
@@ -24,14 +21,15 @@ use Rattle.policies.specs.declared.policy.Policy.{Policy}
 use Rattle.policies.specs.declared.policy.Policy.the-variants.{Plain, Cryptex, CryptexRequired, Mask}
 use Rattle.policies.specs.declared.policy.Way.{Way}
 use Rattle.policies.specs.declared.policy.Way.the-variants.{Sending, Receiving}
-use Rattle.packet_cipher.specs.Cipher.{padOf, cryptedOf, streamOf, headerStreamOf, cipherOf}
+use Rattle.packet_cipher.specs.Cipher.{streamOf, headerStreamOf, cipherOf}
 use Rattle.wire.specs.Claims.{Cipher, RoundTrip, AnyCipher, SentIsGivenBack, SendingAlike, CryptexLooksAtNone}
 use Rattle.policies.specs.Cryptex.{isCryptexTag, taggedOf, untaggedOf}
-use Rattle.wire.specs.Wire.{givenBackOf, bodyBy, wireBy, restoreBy, tagOf, wireOf, restoreOf, tagFits}
+use Rattle.wire.specs.Wire.{givenBackOf, bodyBy, wireBy, restoreBy, tagOf, wireOf, restoreOf}
 use Rattle.policies.specs.Judging.{tailOf, profileFits, elementsFit, addedOf, sizeFits, judgedAfter, judgedOf}
 use Rattle.policies.specs.Policies.{usesCryptex, usesMask}
-use Rattle.packet_cipher.proofs.Crypting.{crypted-stays, crypted-length, crypted-twice, whole-by}
+use Rattle.packet_cipher.proofs.Crypting.{crypted-stays, crypted-length, crypted-twice, crypted-alike, whole-by}
 use Rattle.wire.proofs.Forms.{Ready, Tagged, tagged, GivenBack, given-back}
+use Rattle.wire.proofs.Wires.{tag-length, ends-fit, wire-ends}
 use Rattle.policies.proofs.Layouts.{apart, sound, layout-same}
 
 -- ---- a packet that is not refused with 2 to 7
@@ -247,31 +245,8 @@ lawful keys policy listed ssrc index =
       elements = whole-by policy listed (streamOf keys ssrc index) (headerStreamOf keys ssrc index);
     }
 
-mac-length : (keys : Keys) (text : List ℕ) → length (macOf (keys .auth) text) ≡ 20
-unfolding macOf
-mac-length keys text = refl
-
-tag-length : (t : ℕ) (keys : Keys) (index : ℕ) → t ≤ 20 → (m : List ℕ) → length (tagOf t keys index m) ≡ t
-unfolding tagOf
-tag-length t keys index h m =
-    let n : length (macOf (keys .auth) (m ++ toBytes 4 (index / 2 ^ 16))) ≡ 20 = mac-length keys (m ++ toBytes 4 (index / 2 ^ 16)) in
-    length-take t (macOf (keys .auth) (m ++ toBytes 4 (index / 2 ^ 16))) ∙ omega arith
-
-same-twice : (l : List ℕ) → sameOf l l ≡ true
-unfolding sameOf
-same-twice [] = refl
-same-twice (x ∷ l) = rw (eq-eqb x x refl) (same-twice l)
-
--- the tag behind a body, and the body before it
-tag-behind : (t : ℕ) (keys : Keys) (index : ℕ) (b : List ℕ) → t ≤ 20 → tagFits t keys index (b ++ tagOf t keys index b) ≡ true
-unfolding tagFits
-tag-behind t keys index b h =
-    let n : length (b ++ tagOf t keys index b) ≡ length b + t = length-append b (tagOf t keys index b) ∙ ap (λ (k : ℕ). length b + k) (tag-length t keys index h b) in
-    let m : length (b ++ tagOf t keys index b) - t ≡ length b = omega arith in
-    rw (m, take-at b (tagOf t keys index b) (length b) refl, drop-at b (tagOf t keys index b) (length b) refl) (same-twice (tagOf t keys index b))
-
 pub sent-is-given-back : SentIsGivenBack
-unfolding wireOf restoreOf wireBy
+unfolding wireOf restoreOf
 sent-is-given-back =
     record {
       lawful = lawful;
@@ -279,14 +254,21 @@ sent-is-given-back =
           λ keys policy listed ssrc index t p h bytes sent.
           round-trip policy (cipherOf keys policy listed ssrc index) (cipherOf keys policy listed ssrc index) (lawful keys policy listed ssrc index) t (tagOf t keys index) p
           (tag-length t keys index h) bytes (passed Sending policy t p sent);
-      fits = λ t h keys policy listed ssrc index p. tag-behind t keys index (bodyBy policy (cipherOf keys policy listed ssrc index) p) h;
+      fits = λ t h keys policy listed ssrc index p. ends-fit t keys index (wireOf t keys policy listed ssrc index p) (wire-ends t keys index policy listed ssrc h p);
     }
 
 -- ---- policies 1 and 2
 
 pub sending-alike : SendingAlike
-unfolding judgedOf wireOf wireBy bodyBy cryptedOf padOf givenBackOf taggedOf
-sending-alike = record { judged = λ t p. judged-alike t p (headerOf p 0); wire = λ t keys listed ssrc index p. refl }
+unfolding judgedOf wireOf wireBy bodyBy givenBackOf taggedOf
+sending-alike =
+    record {
+      judged = λ t p. judged-alike t p (headerOf p 0);
+      wire =
+          λ t keys listed ssrc index p.
+          ap (λ (b : List ℕ). b ++ tagOf t keys index b)
+          (crypted-alike listed (streamOf keys ssrc index) (headerStreamOf keys ssrc index) (taggedOf Cryptex (givenBackOf Cryptex p)));
+    }
   where
     judged-alike : (t : ℕ) (p : List ℕ) (h : Header) → judgedAfter Sending CryptexRequired t p h ≡ judgedAfter Sending Cryptex t p h
     judged-alike t p (Refused r) = refl

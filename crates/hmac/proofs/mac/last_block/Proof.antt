@@ -4,7 +4,7 @@ use mir.Syntax.{w32}
 use mir.Val.{Fits}
 use borrow.Author.Needs.{needs}
 use lib.ListN.{getD}
-use Rattle.hmac.proofs.Macs.{last-is}
+use Rattle.sha1_compress.proofs.Digests.{last-is}
 use Rattle.hmac.proofs.mac.last_block.Statement.{statement}
 use Rattle.hmac.proofs.mac.last_block.Tie as tie
 

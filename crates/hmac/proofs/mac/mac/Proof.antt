@@ -5,8 +5,8 @@ use Prim.Native.Nat.{ℕ}
 use borrow.Author.Needs.{needs}
 use Rattle.sha1_compress.specs.Hash.{compressOf, digestOf}
 use Rattle.sha1_compress.specs.Steps.{hashFrom}
+use Rattle.sha1_compress.proofs.Digests.{last-hash}
 use Rattle.hmac.specs.Steps.{macOf}
-use Rattle.hmac.proofs.Macs.{last-hash}
 use Rattle.hmac.proofs.mac.mac.Statement.{statement}
 use Rattle.hmac.proofs.mac.mac.Tie as tie
 

@@ -1,10 +1,10 @@
-use Rattle.sha1_compress.proofs.Blocks.{word-more, words-all}
+use Rattle.sha1_compress.proofs.Blocks.{words-none, word-more, words-all}
 use Rattle.sha1_compress.specs.Message.{wordsIn}
 use lib.ListN.{drop, replicate}
 use mathlib.Core.List.{_++_}
 use borrow.Author.Needs.{needs}
-use mathlib.Core.Path.{_≡_, refl, ap, sym, _∙_}
-use Prim.Native.Nat.{_≤_, _<_, _+_, _-_, _*_}
+use mathlib.Core.Path.{_≡_}
+use Prim.Native.Nat.{_≤_, _-_}
 use native.Mathlib.Omega.{arith}
 use Rattle.sha1_message.proofs.message.block.Statement.{statement}
 use Rattle.sha1_message.proofs.message.block.Tie as tie
@@ -16,8 +16,7 @@ abbrev μ-loop : tie.MeasureT-loop
 μ-loop b at w₀ i₀ w i = 16 - i
 
 loop-holds : tie.Need-loop-holds Inv-loop μ-loop
-unfolding wordsIn
-loop-holds c = (search needs, refl)
+loop-holds c = let g = c .before .args in (search needs, words-none (g .b .now) (g .at))
 
 mul-word : tie.Need-mul-word Inv-loop μ-loop
 mul-word c = search needs

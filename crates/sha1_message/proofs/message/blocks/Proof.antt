@@ -1,8 +1,8 @@
-use Rattle.sha1_compress.proofs.Blocks.{block-more}
+use Rattle.sha1_compress.proofs.Blocks.{blocks-none, block-more}
 use Rattle.sha1_compress.specs.Hash.{blocksOf}
 use borrow.Author.Needs.{needs}
-use mathlib.Core.Path.{_≡_, refl, ap, sym, _∙_}
-use Prim.Native.Nat.{_≤_, _<_, _+_, _-_, _*_}
+use mathlib.Core.Path.{_≡_, ap, _∙_}
+use Prim.Native.Nat.{_≤_, _-_}
 use native.Mathlib.Omega.{arith}
 use Rattle.sha1_message.proofs.message.blocks.Statement.{statement}
 use Rattle.sha1_message.proofs.message.blocks.Tie as tie
@@ -14,8 +14,7 @@ abbrev μ-loop : tie.MeasureT-loop
 μ-loop b n s₀ i₀ s i = n - i
 
 loop-holds : tie.Need-loop-holds Inv-loop μ-loop
-unfolding blocksOf
-loop-holds c = (search needs, refl)
+loop-holds c = (search needs, blocks-none _ _)
 
 mul-block : tie.Need-mul-block Inv-loop μ-loop
 mul-block c = search needs
