@@ -3,6 +3,7 @@ pub mod Refusing
 pub mod Settling
 pub mod Holding
 pub mod Sending
+pub mod Tags
 pub mod Arriving
 pub mod Exchanging
 pub mod Answering

@@ -2,6 +2,7 @@ pub mod Lists
 pub mod Answers
 pub mod Sessions
 pub mod Sent
+pub mod Tags
 pub mod Arrivals
 pub mod Places
 pub mod Memories

@@ -49,6 +49,14 @@ sentFrom ssrc rollover last (event (unprotect e buf n) a ∷ es) = sentFrom ssrc
 abbrev pub noPacket : Sent
 noPacket = record { index = 0; packet = []; wire = [] }
 
+-- P of each packet that a stream sends, for every list of calls, and every stream that it adds to send in the sender's session, in call i
+abbrev pub OfEachSent : (List ℕ → List ℕ → ℕ → List ℕ → ℕ → Sent → Type 0) → Type 0
+OfEachSent P =
+    (key salt : List ℕ) (policy : ℕ) (ids others : List ℕ) (calls : List Call) → Each Bytes calls
+    → (ssrc rollover i : ℕ) → rollover < 2 ^ 32
+    → getD (eventsOf (justMade key salt policy ids others) calls) i noEvent ≡ added sender ssrc Sending rollover
+    → Each (P key salt policy ids ssrc) (sentFrom ssrc rollover noneSent (eventsOf (justMade key salt policy ids others) calls))
+
 -- ---- the claim
 
 -- The bytes sent are the standards', under the stream's SSRC and the index of the rule above: the index that protect used.
@@ -58,10 +66,5 @@ pub record SentAs (key salt : List ℕ) (policy : ℕ) (ids : List ℕ) (x : ℕ
   pub small : s .index < 2 ^ 48
   pub wire : s .wire ≡ wireOf 10 (keysOf key salt) (policyOf policy) (listedIn (idsOf ids)) x (s .index) (s .packet)
 
--- for every list of calls, and every stream that it adds to send in the sender's session, in call i
 unfoldable pub SentUnderItsIndex : Type 0
-SentUnderItsIndex =
-    (key salt : List ℕ) (policy : ℕ) (ids others : List ℕ) (calls : List Call) → Each Bytes calls
-    → (ssrc rollover i : ℕ) → rollover < 2 ^ 32
-    → getD (eventsOf (justMade key salt policy ids others) calls) i noEvent ≡ added sender ssrc Sending rollover
-    → Each (SentAs key salt policy ids ssrc) (sentFrom ssrc rollover noneSent (eventsOf (justMade key salt policy ids others) calls))
+SentUnderItsIndex = OfEachSent SentAs

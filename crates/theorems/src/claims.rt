@@ -5,6 +5,7 @@ ghost use Rattle.theorems.specs.Example.{PremisesAreMet, HollowProgramsD
 ghost use Rattle.theorems.specs.Memories.{AnswersAsSessions};
 ghost use Rattle.theorems.specs.Sent.{SentUnderItsIndex};
 ghost use Rattle.theorems.specs.Sums.{SumsHold};
+ghost use Rattle.theorems.specs.Tags.{TagsAreHmac};
 ghost use Rattle.theorems.specs.Sessions.{SessionsAreSound, EqualSetsEqualSessions, WordsAreTheSet};
 
 // Demand 1: a call gives its result or one of its numbers, and a refusal changes nothing.
@@ -30,6 +31,11 @@ pub fn words_are_the_set()
 // Demand 2 over lists: the bytes that a stream sends are the standards', under the index that document 01 gives each packet.
 pub fn packets_are_sent_under_their_index()
     ensures { λ _. ⌜ SentUnderItsIndex ⌝ }
+{}
+
+// And each ends with its tag, which is HMAC-SHA1's under the derived authentication key.
+pub fn tags_are_hmac()
+    ensures { λ _. ⌜ TagsAreHmac ⌝ }
 {}
 
 // Demand 3: each arrival of a stream is given back right, or refused as old or repeated, as the ledger says; and two neighbouring packet calls for
