@@ -1,4 +1,4 @@
--- What is claimed of stretches (RFC 3711, section 4.1), and of how many blocks a packet takes (4.1.1).
+-- What is claimed of stretches (RFC 3711, section 4.1), and how many blocks cover them (4.1.1).
 use mathlib.Core.Path.{_≡_}
 use mathlib.Core.List.{List}
 use Prim.Native.Nat.{ℕ, _+_, _/_, _≤_, _<_}
@@ -20,7 +20,3 @@ pub record Stretches : Type 0 where
 -- the blocks that cover n bytes of keystream from its first
 abbrev pub blocksFor : ℕ → ℕ
 blocksFor n = (n + 15) / 16
-
--- the largest packet, of 2,048 bytes, takes 128 blocks at the most
-pub record FewBlocks : Type 0 where
-  pub few : (n : ℕ) → n ≤ 2048 → blocksFor n ≤ 128

@@ -1,3 +1,3 @@
-// Stretches of a keystream: what is claimed of them, and of how many blocks a packet takes.
+// Stretches of a keystream: what is claimed of them.
 // Follows RFC 3711, section 4.1.
 pub mod claims;
