@@ -52,28 +52,33 @@ taken i = record { number = 0; index = i }
 abbrev pub refusedWith : ℕ → Told
 refusedWith n = record { number = n; index = 0 }
 
+-- document 01's names of the rows
+pub data Name : Type 0 where
+  G1 G2 G3 G4 G5 G6 G7 S1 S2 M1 M2 M3 M4 : Name
+
 pub record Row : Type 0 where
+  pub name : Name
   pub question : Question
   pub result : Result
 
-abbrev pub row : Question → Result → Row
-row q r = record { question = q; result = r }
+abbrev pub row : Name → Question → Result → Row
+row name q r = record { name = name; question = q; result = r }
 
 abbrev pub table : List Row
 table =
-    row (received 65535 0) (guessed (pos 65536) (pos 1) (taken 65536))
-    ∷ row (received 65536 65535) (guessed (pos 65535) (negsuc 0) (taken 65535))
-    ∷ row (received 0 65535) (guessed (negsuc 0) (negsuc 0) (refusedWith 12))
-    ∷ row (received 0 32768) (guessed (pos 32768) (pos 32768) (taken 32768))
-    ∷ row (received 32768 0) (guessed (pos 0) (negsuc 32767) (refusedWith 12))
-    ∷ row (received 32769 0) (guessed (pos 65536) (pos 32767) (taken 65536))
-    ∷ row (received (2 ^ 48 - 1) 0) (guessed (pos (2 ^ 48)) (pos 1) (refusedWith 11))
-    ∷ row (sent 0 (32767 ∷ 32768 ∷ [])) (sends (taken 32767 ∷ refusedWith 10 ∷ []))
-    ∷ row (sent 65535 (0 ∷ [])) (sends (taken 65536 ∷ []))
-    ∷ row (masked (0x10 ∷ 0xab ∷ 0x00 ∷ 0x21 ∷ 0xcd ∷ 0xef ∷ 0x30 ∷ 0x77 ∷ []) (2 ∷ [])) (mask (0x00 ∷ 0x00 ∷ 0x00 ∷ 0x00 ∷ 0xff ∷ 0xff ∷ 0x00 ∷ 0x00 ∷ []))
-    ∷ row (masked (0x10 ∷ 0xab ∷ 0x00 ∷ 0x21 ∷ 0xcd ∷ 0xef ∷ 0x30 ∷ 0x77 ∷ []) (1 ∷ 3 ∷ [])) (mask (0x00 ∷ 0xff ∷ 0x00 ∷ 0x00 ∷ 0x00 ∷ 0x00 ∷ 0x00 ∷ 0xff ∷ []))
-    ∷ row (masked (0x10 ∷ 0xab ∷ 0xf1 ∷ 0x21 ∷ []) (1 ∷ 2 ∷ 15 ∷ [])) (mask (0x00 ∷ 0xff ∷ 0x00 ∷ 0x00 ∷ []))
-    ∷ row (masked (0x13 ∷ 0xab ∷ 0xcd ∷ 0xef ∷ []) []) element
+    row G1 (received 65535 0) (guessed (pos 65536) (pos 1) (taken 65536))
+    ∷ row G2 (received 65536 65535) (guessed (pos 65535) (negsuc 0) (taken 65535))
+    ∷ row G3 (received 0 65535) (guessed (negsuc 0) (negsuc 0) (refusedWith 12))
+    ∷ row G4 (received 0 32768) (guessed (pos 32768) (pos 32768) (taken 32768))
+    ∷ row G5 (received 32768 0) (guessed (pos 0) (negsuc 32767) (refusedWith 12))
+    ∷ row G6 (received 32769 0) (guessed (pos 65536) (pos 32767) (taken 65536))
+    ∷ row G7 (received (2 ^ 48 - 1) 0) (guessed (pos (2 ^ 48)) (pos 1) (refusedWith 11))
+    ∷ row S1 (sent 0 (32767 ∷ 32768 ∷ [])) (sends (taken 32767 ∷ refusedWith 10 ∷ []))
+    ∷ row S2 (sent 65535 (0 ∷ [])) (sends (taken 65536 ∷ []))
+    ∷ row M1 (masked (0x10 ∷ 0xab ∷ 0x00 ∷ 0x21 ∷ 0xcd ∷ 0xef ∷ 0x30 ∷ 0x77 ∷ []) (2 ∷ [])) (mask (0x00 ∷ 0x00 ∷ 0x00 ∷ 0x00 ∷ 0xff ∷ 0xff ∷ 0x00 ∷ 0x00 ∷ []))
+    ∷ row M2 (masked (0x10 ∷ 0xab ∷ 0x00 ∷ 0x21 ∷ 0xcd ∷ 0xef ∷ 0x30 ∷ 0x77 ∷ []) (1 ∷ 3 ∷ [])) (mask (0x00 ∷ 0xff ∷ 0x00 ∷ 0x00 ∷ 0x00 ∷ 0x00 ∷ 0x00 ∷ 0xff ∷ []))
+    ∷ row M3 (masked (0x10 ∷ 0xab ∷ 0xf1 ∷ 0x21 ∷ []) (1 ∷ 2 ∷ 15 ∷ [])) (mask (0x00 ∷ 0xff ∷ 0x00 ∷ 0x00 ∷ []))
+    ∷ row M4 (masked (0x13 ∷ 0xab ∷ 0xcd ∷ 0xef ∷ []) []) element
     ∷ []
 
 unfoldable pub SumsHold : Type 0
