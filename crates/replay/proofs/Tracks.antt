@@ -13,8 +13,8 @@ use Rattle.replay.specs.declared.answer.Judged.{Judged}
 use Rattle.replay.specs.declared.answer.Judged.the-variants.{Index, Refused}
 use Rattle.replay.specs.Window.{Window, markOf}
 use Rattle.replay.specs.State.{ReplayState, freshOf, acceptOf, afterOf}
-use Rattle.replay.specs.Receive.{receiveOf}
-use Rattle.replay.specs.Send.{sentOf, sendOf}
+use Rattle.replay.specs.Receive.{indexFor, judgeIndex, receiveOf}
+use Rattle.replay.specs.Send.{nextOf, sentOf, sendOf}
 use Rattle.replay.specs.Track.{blocksIn, windowIn, windowWords, stateIn, stateWords, Blocks}
 
 -- ---- the state that a step leaves
@@ -56,6 +56,14 @@ module _ (b : ℕ) (s : ReplayState) (whole : Blocks b s) where
   pub sent-blocks : (j : Judged) → Blocks b (sentOf s j)
   sent-blocks (Index i) = record { stamps = whole .stamps; bits = whole .bits }
   sent-blocks (Refused r) = whole
+
+  pub send-blocks : (rollover seq : ℕ) → Blocks b (sendOf s rollover seq .state)
+  unfolding sendOf
+  send-blocks rollover seq = sent-blocks (nextOf s rollover seq)
+
+  pub receive-blocks : (W rollover seq : ℕ) → Blocks b (receiveOf b W s rollover seq .state)
+  unfolding receiveOf
+  receive-blocks W rollover seq = after-blocks (judgeIndex b W s (indexFor s rollover seq))
 
 -- a track of 2 + 2b words has one
 module _ (b : ℕ) (l : List ℕ) (size : length l ≡ 2 + (b + b)) where

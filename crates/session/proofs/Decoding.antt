@@ -2,7 +2,7 @@
 use mathlib.Core.Path.{_≡_, refl, sym, ap, _∙_}
 use mathlib.Core.Bool.{Bool, true, false, not}
 use mathlib.Core.List.{List, [], _∷_}
-use Prim.Native.Nat.{ℕ, suc, _+_, _*_, _^_, _≤_, _<_}
+use Prim.Native.Nat.{ℕ, suc, _+_, _^_, _≤_, _<_}
 use native.Mathlib.Omega.{arith}
 use borrow.Author.Tests.{eq-eqb, ne-eqb}
 use lib.ListN.{length, getD, set, take}
@@ -11,12 +11,11 @@ use Rattle.bits.specs.Pick.{pick}
 use Rattle.bits.specs.Refusals.{numberOf}
 use Rattle.bits.specs.declared.refusal.Refusal.the-variants as refusal
 use Rattle.bits.proofs.Refusals.{above-zero}
-use Rattle.memory.specs.Parts.{withPart, placeIn, cut}
+use Rattle.memory.specs.Parts.{withPart, placeIn}
 use Rattle.memory.specs.Words.{word}
 use Rattle.memory.proofs.Parts.{with-length, field-word, cut-before}
 use Rattle.rtp_header.specs.Header.{ssrcOf}
 use Rattle.policies.specs.declared.policy.Way.{Way}
-use Rattle.policies.specs.declared.policy.Way.the-variants.{Sending, Receiving}
 use Rattle.policies.proofs.Layouts.{apart}
 use Rattle.replay.specs.State.{ReplayState}
 use Rattle.replay.specs.Track.{Blocks, stateWords}
@@ -26,16 +25,17 @@ use Rattle.session.specs.declared.place.Place.{Place}
 use Rattle.session.specs.declared.place.Place.the-variants.{At, Nowhere}
 use Rattle.session.specs.Session.{Made, Record, Session}
 use Rattle.session.specs.Adding.{notAdded, addOf}
-use Rattle.session.specs.Packets.{listedBy, Effect, refuse, give, protectEffect, unprotectEffect, settled, protectOf, unprotectOf}
+use Rattle.session.specs.Packets.{Effect, refuse, give, settled}
 use Rattle.session.specs.Records.{isFor, recordFor, withReplay, storeFor, hasSsrc, isFull, placed, freshRecord}
 use Rattle.session.specs.Places.{noRecord, placeFrom, freeFrom}
-use Rattle.session.specs.Calls.{Left, withoutBuffer, withReplayAt, withRecordAt, placedAt, addedIn, settledIn, protectCall, unprotectCall}
+use Rattle.session.specs.Calls.{Left, withoutBuffer, withReplayAt, withRecordAt, placedAt, addedIn, settledIn}
 use Rattle.session.specs.Memory.{number, recordLayout, theReplay, each, recordWords, setupLayout, theMark, isMark, setupFrom, size, recordPlace, recordsIn, setupAt, decode}
 use Rattle.session.specs.RoundTrip.{RecordFits}
 use Rattle.session.proofs.Places.{found-here, free-here, full}
 use Rattle.session.proofs.Memory.{made, not-made, unmade-nowhere}
 use Rattle.session.proofs.Records.{record-kept, record-length, records-length, record-became, replay-became}
-use Rattle.session.proofs.Shapes.{EffectFits, found-fits, protect-fits, unprotect-fits}
+use Rattle.session.proofs.Ways.{outcomeBy, callBy, doneBy, call-is, outcome-is}
+use Rattle.session.proofs.Shapes.{EffectFits, found-fits, effect-fits}
 
 -- ---- a record stored
 
@@ -127,31 +127,18 @@ module _ (words : List ℕ) (sized : length words ≡ size) (buf : List ℕ) (x 
           })
 
 module _ (words : List ℕ) (sized : length words ≡ size) (buf : List ℕ) (n : ℕ) where
-  pub protect-answers : protectCall words buf n .answer ≡ protectOf (decode words) buf n .answer
-  unfolding protectCall
-  protect-answers = rw (eq-eqb (length words) size sized)
+  sized-call : (way : Way) → callBy way words buf n ≡ settledIn words (ssrcOf (take n buf)) way (outcomeBy way (decode words) buf n)
+  sized-call way = rw (call-is way words buf n, eq-eqb (length words) size sized)
 
-  pub protect-holds : Holds (protectCall words buf n) (protectOf (decode words) buf n .session)
-  unfolding protectCall protectOf
-  protect-holds =
-      let s = decode words in
-      rw (eq-eqb (length words) size sized)
-      (settled-holds words sized buf (ssrcOf (take n buf)) Sending
-      (protectEffect (s .setup .keys) (s .setup .policy) (listedBy (s .setup)) buf n (recordFor (s .records) (ssrcOf (take n buf)) Sending))
-      (protect-fits (s .setup .keys) (s .setup .policy) (listedBy (s .setup)) buf n (recordFor (s .records) (ssrcOf (take n buf)) Sending) (found-fits words sized (ssrcOf (take n buf)) Sending)))
+  pub call-answers : (way : Way) → callBy way words buf n .answer ≡ outcomeBy way (decode words) buf n .answer
+  call-answers way = ap (λ (l : Left). l .answer) (sized-call way)
 
-  pub unprotect-answers : unprotectCall words buf n .answer ≡ unprotectOf (decode words) buf n .answer
-  unfolding unprotectCall
-  unprotect-answers = rw (eq-eqb (length words) size sized)
-
-  pub unprotect-holds : Holds (unprotectCall words buf n) (unprotectOf (decode words) buf n .session)
-  unfolding unprotectCall unprotectOf
-  unprotect-holds =
-      let s = decode words in
-      rw (eq-eqb (length words) size sized)
-      (settled-holds words sized buf (ssrcOf (take n buf)) Receiving
-      (unprotectEffect (s .setup .keys) (s .setup .policy) (listedBy (s .setup)) buf n (recordFor (s .records) (ssrcOf (take n buf)) Receiving))
-      (unprotect-fits (s .setup .keys) (s .setup .policy) (listedBy (s .setup)) buf n (recordFor (s .records) (ssrcOf (take n buf)) Receiving) (found-fits words sized (ssrcOf (take n buf)) Receiving)))
+  pub call-holds : (way : Way) → Holds (callBy way words buf n) (outcomeBy way (decode words) buf n .session)
+  call-holds way =
+      let x : ℕ = ssrcOf (take n buf) in
+      rw (sized-call way, outcome-is way (decode words) buf n)
+      (settled-holds words sized buf x way (doneBy way (decode words) buf n)
+      (effect-fits (decode words .setup) buf n way (recordFor (decode words .records) x way) (found-fits words sized x way)))
 
 -- ---- add
 

@@ -5,5 +5,6 @@ pub mod Records
 pub mod Front
 pub mod Memory
 pub mod RoundTrip
+pub mod Ways
 pub mod Shapes
 pub mod Decoding

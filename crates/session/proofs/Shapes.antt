@@ -4,34 +4,23 @@ use mathlib.Core.Bool.{Bool, true, false}
 use mathlib.Core.List.{List, [], _∷_}
 use Prim.Native.Nat.{ℕ, zero, suc, _<_}
 use native.Mathlib.Omega.{arith}
-use lib.Dec.{ltb}
 use lib.ListN.{length, getD, take, replicate}
 use Rattle.bits.specs.Pick.{pick}
 use Rattle.memory.specs.Words.{word}
 use Rattle.bits.specs.declared.refusal.Refusal.the-variants as refusal
-use Rattle.rtp_header.specs.declared.header.Header.{Header}
-use Rattle.rtp_header.specs.declared.header.Header.the-variants.{Read, Refused}
 use Rattle.rtp_header.specs.Header.{seqOf}
-use Rattle.replay.specs.declared.answer.Judged.{Judged}
-use Rattle.replay.specs.declared.answer.Judged.the-variants.{Index, Refused as NoIndex}
-use Rattle.replay.specs.Receive.{judgeIndex, indexFor, receiveOf}
-use Rattle.replay.specs.Send.{nextOf, sentOf, sendOf}
-use Rattle.replay.specs.State.{ReplayState, afterOf}
 use Rattle.replay.specs.Track.{Blocks}
 use Rattle.replay.specs.Window.{blocks, width}
-use Rattle.replay.proofs.Tracks.{fresh-blocks, after-blocks, sent-blocks}
-use Rattle.packet_cipher.specs.declared.keys.Keys.{Keys}
-use Rattle.policies.specs.declared.policy.Policy.{Policy}
+use Rattle.replay.proofs.Tracks.{fresh-blocks, send-blocks, receive-blocks}
 use Rattle.policies.specs.declared.policy.Way.{Way}
 use Rattle.policies.specs.declared.policy.Way.the-variants.{Sending, Receiving}
-use Rattle.policies.specs.Judging.{judgedOf}
-use Rattle.wire.specs.Wire.{tagFits}
-use Rattle.session.specs.Session.{Record}
-use Rattle.session.specs.Packets.{tagLength, Effect, refuse, give, wireLength, protectAt, protectIn, protectRead, protectEffect, unprotectAt, unprotectIn, unprotectRead, unprotectEffect}
+use Rattle.session.specs.Session.{Record, Setup}
+use Rattle.session.specs.Packets.{Effect, refuse, give}
 use Rattle.session.specs.Records.{Found, none, some, isFor, recordFor, freePlace}
 use Rattle.session.specs.Memory.{isMark, size, recordsIn, decode}
 use Rattle.session.specs.Places.{noRecord}
 use Rattle.session.proofs.Memory.{made, not-made}
+use Rattle.session.proofs.Ways.{effectBy, stateBy, effect-cases}
 use Rattle.session.proofs.Records.{records-length, replay-blocks}
 
 -- ---- what is found
@@ -65,51 +54,10 @@ abbrev pub EffectFits : Effect → Type 0
 EffectFits (refuse r) = Unit {0}
 EffectFits (give m b s) = Blocks blocks s
 
-either : (b : Bool) (p q : Effect) → EffectFits p → EffectFits q → EffectFits (pick b p q)
-either true p q f g = f
-either false p q f g = g
+state-fits : (way : Way) (r : Record) (seq : ℕ) → Blocks blocks (r .replay) → Blocks blocks (stateBy way r seq)
+state-fits Sending r seq f = send-blocks blocks (r .replay) f (r .rollover) seq
+state-fits Receiving r seq f = receive-blocks blocks (r .replay) f width (r .rollover) seq
 
-module _ (keys : Keys) (policy : Policy) (listed : ℕ → Bool) (buf : List ℕ) (n : ℕ) where
-  protect-at-fits : (j : Judged) (s : ReplayState) → Blocks blocks s → EffectFits (protectAt keys policy listed buf n j s)
-  protect-at-fits (Index i) s f = f
-  protect-at-fits (NoIndex r) s f = tt
-
-  protect-in-fits : (f : Found) → FoundFits f → EffectFits (protectIn keys policy listed buf n f)
-  unfolding sendOf
-  protect-in-fits none f = tt
-  protect-in-fits (some r) f =
-      protect-at-fits (nextOf (r .replay) (r .rollover) (seqOf (take n buf))) (sentOf (r .replay) (nextOf (r .replay) (r .rollover) (seqOf (take n buf))))
-      (sent-blocks blocks (r .replay) f (nextOf (r .replay) (r .rollover) (seqOf (take n buf))))
-
-  protect-read-fits : (h : Header) (f : Found) → FoundFits f → EffectFits (protectRead keys policy listed buf n h f)
-  protect-read-fits (Refused r) f p = tt
-  protect-read-fits (Read h) f p =
-      either (ltb (length buf) (wireLength policy buf n)) (refuse refusal.Room) (protectIn keys policy listed buf n f) tt (protect-in-fits f p)
-
-  pub protect-fits : (f : Found) → FoundFits f → EffectFits (protectEffect keys policy listed buf n f)
-  unfolding protectEffect
-  protect-fits f p =
-      either (ltb (length buf) n) (refuse refusal.Length) (protectRead keys policy listed buf n (judgedOf Sending policy tagLength (take n buf)) f) tt
-      (protect-read-fits (judgedOf Sending policy tagLength (take n buf)) f p)
-
-  unprotect-at-fits : (j : Judged) (s : ReplayState) → Blocks blocks s → EffectFits (unprotectAt keys policy listed buf n j s)
-  unprotect-at-fits (Index i) s f = either (tagFits tagLength keys i (take n buf)) _ (refuse refusal.Tag) f tt
-  unprotect-at-fits (NoIndex r) s f = tt
-
-  unprotect-in-fits : (f : Found) → FoundFits f → EffectFits (unprotectIn keys policy listed buf n f)
-  unfolding receiveOf
-  unprotect-in-fits none f = tt
-  unprotect-in-fits (some r) f =
-      unprotect-at-fits (judgeIndex blocks width (r .replay) (indexFor (r .replay) (r .rollover) (seqOf (take n buf))))
-      (afterOf blocks (r .replay) (judgeIndex blocks width (r .replay) (indexFor (r .replay) (r .rollover) (seqOf (take n buf)))))
-      (after-blocks blocks (r .replay) f (judgeIndex blocks width (r .replay) (indexFor (r .replay) (r .rollover) (seqOf (take n buf)))))
-
-  unprotect-read-fits : (h : Header) (f : Found) → FoundFits f → EffectFits (unprotectRead keys policy listed buf n h f)
-  unprotect-read-fits (Refused r) f p = tt
-  unprotect-read-fits (Read h) f p = unprotect-in-fits f p
-
-  pub unprotect-fits : (f : Found) → FoundFits f → EffectFits (unprotectEffect keys policy listed buf n f)
-  unfolding unprotectEffect
-  unprotect-fits f p =
-      either (ltb (length buf) n) (refuse refusal.Length) (unprotectRead keys policy listed buf n (judgedOf Receiving policy tagLength (take n buf)) f) tt
-      (unprotect-read-fits (judgedOf Receiving policy tagLength (take n buf)) f p)
+pub effect-fits : (setup : Setup) (buf : List ℕ) (n : ℕ) (way : Way) (found : Found) → FoundFits found → EffectFits (effectBy setup buf n way found)
+effect-fits setup buf n way found f =
+    effect-cases setup buf n EffectFits (λ r. tt) way found (λ r e m b. state-fits way r (seqOf (take n buf)) (rw e at f))

@@ -1,8 +1,8 @@
 -- What the front of a packet call found decides the call: for both ways at once.
-use mathlib.Core.Path.{_≡_, refl, sym, ap, ap₂, _∙_}
+use mathlib.Core.Path.{_≡_, refl, sym, ap, _∙_}
 use mathlib.Core.Bool.{Bool, true, false}
 use mathlib.Core.List.{List}
-use Prim.Native.Nat.{ℕ, _+_, _≤_, _<_}
+use Prim.Native.Nat.{ℕ, _+_, _≤_}
 use native.Mathlib.Omega.{arith}
 use borrow.Author.Tests.{ne-eqb, le-ltb, ltb-false}
 use lib.Dec.{eqb, ltb}
@@ -18,7 +18,6 @@ use Rattle.rtp_header.specs.declared.header.Header.{Header}
 use Rattle.rtp_header.specs.declared.header.Header.the-variants.{Read, Refused}
 use Rattle.rtp_header.specs.declared.header.Layout.{Layout}
 use Rattle.rtp_header.specs.Header.{seqOf, ssrcOf}
-use Rattle.rtp_elements.specs.Mask.{listedIn}
 use Rattle.replay.specs.declared.answer.Judged.{Judged}
 use Rattle.replay.specs.declared.answer.Judged.the-variants.{Index, Refused as NoIndex}
 use Rattle.policies.specs.declared.policy.Policy.{Policy}
@@ -29,24 +28,20 @@ use Rattle.policies.proofs.Layouts.{apart}
 use Rattle.session.specs.declared.answer.Answer.{Answer as Given}
 use Rattle.session.specs.declared.place.Place.{Place}
 use Rattle.session.specs.declared.place.Place.the-variants.{At, Nowhere}
-use Rattle.session.specs.Calls.{Left, wrongMemory, refusedWith, Gives, settledIn, protectCall, unprotectCall}
+use Rattle.session.specs.Calls.{Left, wrongMemory, refusedWith, Gives, settledIn}
 use Rattle.session.specs.Memory.{isMark, policyAt, size, decode}
-use Rattle.session.specs.Packets.{tagLength, wireLength, Effect, refuse, give, protectIn, protectRead, protectEffect, unprotectIn, unprotectRead, unprotectEffect, settled, protectOf, unprotectOf}
+use Rattle.session.specs.Packets.{tagLength, wireLength, Effect, refuse, give, settled}
 use Rattle.session.specs.Places.{noRecord, placeFrom}
-use Rattle.session.specs.Records.{Found, none, some, recordFor, storeFor, withReplay}
+use Rattle.session.specs.Records.{none, some, recordFor, storeFor, withReplay}
 use Rattle.session.specs.Session.{Record, Session}
 use Rattle.session.proofs.Memory.{made, policy-is, unmade-nowhere}
 use Rattle.session.proofs.Places.{found-here, nowhere}
+use Rattle.session.proofs.Ways.{inBy, readBy, callBy, effect-is, call-is, outcome-is}
 use Rattle.front.specs.declared.open.Opened.{Opened}
 use Rattle.records.specs.Tracks.{recordIn, judgedBy}
 use Rattle.front.specs.Opening.{shut, noMemory, openIndex, openAt, openRead, openOf}
 use Rattle.streams.specs.Steps.{effectAt, leftBy}
 use Rattle.streams.proofs.Effects.{wire-length, not-taken}
-
--- protect where the way is sending, unprotect where it is receiving
-abbrev pub callOf : Way → List ℕ → List ℕ → ℕ → Left
-callOf Sending words buf n = protectCall words buf n
-callOf Receiving words buf n = unprotectCall words buf n
 
 module _ (words buf : List ℕ) (n : ℕ) where
   abbrev s : Session
@@ -62,11 +57,7 @@ module _ (words buf : List ℕ) (n : ℕ) where
   refused-left : (way : Way) (r : Refusal) → settledBy way (refuse r) ≡ refusedWith (numberOf r) words buf
   refused-left way r = rw (ne-eqb (numberOf r) 0 (λ z. omega (arith, above-zero r)))
 
-  abbrev effectIn : Way → Found → Effect
-  effectIn Sending found = protectIn (s .setup .keys) (s .setup .policy) (listedIn (s .setup .ids)) buf n found
-  effectIn Receiving found = unprotectIn (s .setup .keys) (s .setup .policy) (listedIn (s .setup .ids)) buf n found
-
-  no-stream : (way : Way) → effectIn way none ≡ refuse refusal.Stream
+  no-stream : (way : Way) → inBy (s .setup) buf n way none ≡ refuse refusal.Stream
   no-stream Sending = refl
   no-stream Receiving = refl
 
@@ -90,10 +81,10 @@ module _ (words buf : List ℕ) (n : ℕ) where
         go true e = e
         go false e = apart (let z = unmade-nowhere words e x way in cc)
 
-    its-effect : effectIn way (some (getD (s .records) i noRecord)) ≡ effectAt way words i buf n
+    its-effect : inBy (s .setup) buf n way (some (getD (s .records) i noRecord)) ≡ effectAt way words i buf n
     its-effect = go way
       where
-        go : (v : Way) → effectIn v (some (getD (s .records) i noRecord)) ≡ effectAt v words i buf n
+        go : (v : Way) → inBy (s .setup) buf n v (some (getD (s .records) i noRecord)) ≡ effectAt v words i buf n
         go Sending = rw (sym (policy-is words), made words is-made)
         go Receiving = rw (sym (policy-is words), made words is-made)
 
@@ -114,21 +105,17 @@ module _ (words buf : List ℕ) (n : ℕ) where
 
   -- STREAM
   placed-left : (way : Way) (h : Layout) (p : Place) → placeFrom 0 (s .records) x way ≡ p
-      → settledBy way (effectIn way (recordFor (s .records) x way)) ≡ endedBy way (openAt way words (take n buf) h p)
+      → settledBy way (inBy (s .setup) buf n way (recordFor (s .records) x way)) ≡ endedBy way (openAt way words (take n buf) h p)
   placed-left way h Nowhere e = rw (nowhere (s .records) x way e) (ap (settledBy way) (no-stream way) ∙ refused-left way refusal.Stream)
   placed-left way h (At i) e =
       rw (found-here (s .records) x way i e .found)
-      (its-left way i e (effectIn way (some (getD (s .records) i noRecord))) ∙ ap (leftBy words i buf) (its-effect way i e)
+      (its-left way i e (inBy (s .setup) buf n way (some (getD (s .records) i noRecord))) ∙ ap (leftBy words i buf) (its-effect way i e)
       ∙ index-left way h i (judgedBy way (recordIn words i) (seqOf (take n buf))) refl)
 
   -- SHORT to LARGE, then ROOM
-  abbrev readBy : Way → Header → Found → Effect
-  readBy Sending j found = protectRead (s .setup .keys) (s .setup .policy) (listedIn (s .setup .ids)) buf n j found
-  readBy Receiving j found = unprotectRead (s .setup .keys) (s .setup .policy) (listedIn (s .setup .ids)) buf n j found
-
   module _ (inside : n ≤ length buf) where
     read-left : (way : Way) (j : Header) → judgedOf way (policyAt (word words 0)) tagLength (take n buf) ≡ j
-        → settledBy way (readBy way j (recordFor (s .records) x way)) ≡ endedBy way (openRead way words buf n j)
+        → settledBy way (readBy (s .setup) buf n way j (recordFor (s .records) x way)) ≡ endedBy way (openRead way words buf n j)
     read-left Sending (Refused r) e = refused-left Sending r
     read-left Receiving (Refused r) e = refused-left Receiving r
     read-left Receiving (Read h) e =
@@ -140,14 +127,14 @@ module _ (words buf : List ℕ) (n : ℕ) where
         ap (λ (p : Policy). wireLength p buf n) (sym (policy-is words)) ∙ wire-length (policyAt (word words 0)) buf n h e in
         rw l (go (ltb (length buf) (n + addedOf Sending (policyAt (word words 0)) tagLength h)))
       where
-        go : (b : Bool) → settledBy Sending (pick b (refuse refusal.Room) (effectIn Sending (recordFor (s .records) x Sending)))
+        go : (b : Bool) → settledBy Sending (pick b (refuse refusal.Room) (inBy (s .setup) buf n Sending (recordFor (s .records) x Sending)))
             ≡ endedBy Sending (pick b (shut refusal.Room) (openAt Sending words (take n buf) h (placeFrom 0 (s .records) x Sending)))
         go true = refused-left Sending refusal.Room
         go false = placed-left Sending h (placeFrom 0 (s .records) x Sending) refl
 
   -- LENGTH, and the memory's size
   abbrev lengthBy : Way → Effect
-  lengthBy way = pick (ltb (length buf) n) (refuse refusal.Length) (readBy way (judgedOf way (policyAt (word words 0)) tagLength (take n buf)) (recordFor (s .records) x way))
+  lengthBy way = pick (ltb (length buf) n) (refuse refusal.Length) (readBy (s .setup) buf n way (judgedOf way (policyAt (word words 0)) tagLength (take n buf)) (recordFor (s .records) x way))
 
   length-left : (way : Way) → settledBy way (lengthBy way)
       ≡ endedBy way (pick (ltb (length buf) n) (shut refusal.Length) (openRead way words buf n (judgedOf way (policyAt (word words 0)) tagLength (take n buf))))
@@ -156,17 +143,17 @@ module _ (words buf : List ℕ) (n : ℕ) where
       j : Header
       j = judgedOf way (policyAt (word words 0)) tagLength (take n buf)
 
-      go : (b : Bool) → ltb (length buf) n ≡ b → settledBy way (pick b (refuse refusal.Length) (readBy way j (recordFor (s .records) x way)))
+      go : (b : Bool) → ltb (length buf) n ≡ b → settledBy way (pick b (refuse refusal.Length) (readBy (s .setup) buf n way j (recordFor (s .records) x way)))
           ≡ endedBy way (pick b (shut refusal.Length) (openRead way words buf n j))
       go true e = refused-left way refusal.Length
       go false e = read-left (ltb-false (length buf) n e) way j refl
 
-  sized-call : (way : Way) → callOf way words buf n ≡ pick (eqb (length words) size) (settledBy way (lengthBy way)) (refusedWith wrongMemory words buf)
-  unfolding protectCall unprotectCall protectOf unprotectOf protectEffect unprotectEffect
-  sized-call Sending = rw (policy-is words)
-  sized-call Receiving = rw (policy-is words)
+  sized-call : (way : Way) → callBy way words buf n ≡ pick (eqb (length words) size) (settledBy way (lengthBy way)) (refusedWith wrongMemory words buf)
+  sized-call way =
+      call-is way words buf n
+      ∙ rw (outcome-is way s buf n, effect-is (s .setup) buf n way (recordFor (s .records) x way), policy-is words)
 
-  fronted : (way : Way) → callOf way words buf n ≡ endedBy way (openOf way words buf n)
+  fronted : (way : Way) → callBy way words buf n ≡ endedBy way (openOf way words buf n)
   unfolding openOf
   fronted way = sized-call way ∙ go (eqb (length words) size)
     where
@@ -181,12 +168,12 @@ module _ (words buf : List ℕ) (n : ℕ) where
   -- ---- the two ends of a call
 
   module _ (way : Way) (o : Opened) (opens : o ≡ openOf way words buf n) where
-    ended-so : callOf way words buf n ≡ endedBy way o
+    ended-so : callBy way words buf n ≡ endedBy way o
     ended-so = fronted way ∙ ap (endedBy way) (sym opens)
 
-    pub refused-gives : (r : Refusal) → o .header ≡ Refused r → Gives (callOf way words buf n) (record { number = o .number; length = 0 }) buf words
+    pub refused-gives : (r : Refusal) → o .header ≡ Refused r → Gives (callBy way words buf n) (record { number = o .number; length = 0 }) buf words
     refused-gives r e = rw (ended-so, e) (record { answer = refl; buffer = refl; words = refl })
 
     pub stepped-gives : (h : Layout) → o .header ≡ Read h → (r : Given) (after memory : List ℕ)
-        → Gives (leftBy words (o .place) buf (effectAt way words (o .place) buf n)) r after memory → Gives (callOf way words buf n) r after memory
+        → Gives (leftBy words (o .place) buf (effectAt way words (o .place) buf n)) r after memory → Gives (callBy way words buf n) r after memory
     stepped-gives h e r after memory g = rw (ended-so, e) g

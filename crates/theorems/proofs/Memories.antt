@@ -12,7 +12,7 @@ use Rattle.session.specs.Adding.{addOf}
 use Rattle.session.specs.Packets.{Answer}
 use Rattle.session.specs.Calls.{addCall}
 use Rattle.session.specs.Memory.{size, decode}
-use Rattle.session.proofs.Decoding.{Holds, protect-answers, protect-holds, unprotect-answers, unprotect-holds, added-holds}
+use Rattle.session.proofs.Decoding.{Holds, call-answers, call-holds, added-holds}
 use Rattle.theorems.specs.Lists.{End, sender, receiver, Call, add, protect, unprotect, endOf, Sessions, sessionAt, withSession, addOutcome, outcomeOf, answerOf, next, event, Run, run}
 use Rattle.theorems.specs.Memories.{Memories, memoryAt, withMemory, wayNumber, leftBy, nextIn, decoded, runIn, Sized, Words32, AnswersAsSessions}
 
@@ -26,8 +26,8 @@ module _ (words : List ℕ) (sized : length words ≡ size) where
 
   answers : (c : Call) → leftBy words c .answer ≡ outcomeOf (decode words) c .answer
   answers (add e ssrc way rollover) = add-answers ssrc rollover way
-  answers (protect e buf n) = protect-answers words sized buf n
-  answers (unprotect e buf n) = unprotect-answers words sized buf n
+  answers (protect e buf n) = call-answers words sized buf n Sending
+  answers (unprotect e buf n) = call-answers words sized buf n Receiving
 
   add-holds : (ssrc rollover : ℕ) → (e : End) (way : Way) → Words32 (add e ssrc way rollover) → Holds (addCall words ssrc (wayNumber way) rollover) (addOf (decode words) ssrc way rollover .session)
   unfolding addCall
@@ -36,8 +36,8 @@ module _ (words : List ℕ) (sized : length words ≡ size) where
 
   holds : (c : Call) → Words32 c → Holds (leftBy words c) (outcomeOf (decode words) c .session)
   holds (add e ssrc way rollover) w = add-holds ssrc rollover e way w
-  holds (protect e buf n) w = protect-holds words sized buf n
-  holds (unprotect e buf n) w = unprotect-holds words sized buf n
+  holds (protect e buf n) w = call-holds words sized buf n Sending
+  holds (unprotect e buf n) w = call-holds words sized buf n Receiving
 
 -- ---- on two memories
 
