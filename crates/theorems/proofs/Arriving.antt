@@ -36,11 +36,12 @@ use Rattle.wire.proofs.RoundTrips.{passed, judged, sent-is-given-back}
 use Rattle.session.specs.Session.{Record, Setup, Session, Made}
 use Rattle.session.specs.Records.{some, withReplay, freshRecord}
 use Rattle.session.specs.Packets.{tagLength, listedBy, Effect, refuse, give, unprotectAt, unprotectEffect, Outcome, settled, protectOf, unprotectOf}
+use Rattle.session.proofs.Ways.{doneBy}
 use Rattle.theorems.specs.Lists.{sender, receiver, Call, add, protect, unprotect, Sessions, justMade, EqualSets, Event, eventsOf, Bytes}
 use Rattle.theorems.specs.Sent.{Sent, noPacket}
 use Rattle.theorems.specs.Arrivals.{Mark, unmarked, carries, Arrival, arrivalAt, otherAt, arrivalsOf, othersOf, Carries, AllNear, Premises, Right, AsTheLedger, ArrivalsFollowTheLedger}
 use Rattle.theorems.proofs.Records.{found-stored}
-use Rattle.theorems.proofs.Holding.{protectDone, unprotectDone, Holds, holds-add, holds-settled, Behind, behind-add}
+use Rattle.theorems.proofs.Holding.{Holds, holds-add, holds-settled, Behind, behind-add}
 use Rattle.theorems.proofs.Sending.{Good, trip, setup, made-setup, all-sent}
 use Rattle.theorems.proofs.Keeping.{equal-sets}
 
@@ -215,9 +216,9 @@ module _ (h : Setup) (x rollover : ℕ) (large : rollover < 2 ^ 32) (sent : List
             let t : toldOf (Index i) ≡ enter width held (pkt .index) .told = ap toldOf (sym e) ∙ agrees .told in
             ap (λ (u : Told). u .index) t ∙ enter-index width held (pkt .index) (sym (ap (λ (u : Told). u .number) t))
 
-        effect-is : unprotectDone s buf n ≡ verdict (got .judged) (got .state) (n - tagLength) (givenBackOf (h .policy) (pkt .packet) ++ drop (n - tagLength) buf)
+        effect-is : doneBy Receiving s buf n ≡ verdict (got .judged) (got .state) (n - tagLength) (givenBackOf (h .policy) (pkt .packet) ++ drop (n - tagLength) buf)
         effect-is =
-            let own : unprotectDone s buf n ≡ unprotectEffect (h .keys) (h .policy) (listedBy h) buf n (some (o .rec)) = rw (same-ssrc h x pkt good buf n size starts, o .holds .setup, o .holds .found) in
+            let own : doneBy Receiving s buf n ≡ unprotectEffect (h .keys) (h .policy) (listedBy h) buf n (some (o .rec)) = rw (same-ssrc h x pkt good buf n size starts, o .holds .setup, o .holds .found) in
             own ∙ unprotected h x pkt good buf n size starts (o .rec) got refl same-index
 
         record Settles (d : Effect) : Type 0 where
@@ -249,7 +250,7 @@ module _ (h : Setup) (x rollover : ℕ) (large : rollover < 2 ^ 32) (sent : List
               };
             }
 
-      by-arrival : (d : Effect) → unprotectDone s buf n ≡ d → Ahead held (arrival d ∷ A (outcome d .session)) (O (outcome d .session))
+      by-arrival : (d : Effect) → doneBy Receiving s buf n ≡ d → Ahead held (arrival d ∷ A (outcome d .session)) (O (outcome d .session))
           → AsTheLedger (h .policy) sent held (arrival d ∷ A (outcome d .session))
       by-arrival d f p =
           let c : Carries sent (arrival d) = p .carried .0 in
@@ -263,7 +264,7 @@ module _ (h : Setup) (x rollover : ℕ) (large : rollover < 2 ^ 32) (sent : List
                 (record { carried = p .carried .1; nothing-else = p .nothing-else; near = p .near .1 }),
           )
 
-    by-mark : (m : Mark) (d : Effect) → unprotectDone s buf n ≡ d
+    by-mark : (m : Mark) (d : Effect) → doneBy Receiving s buf n ≡ d
         → Ahead held (arrivalAt m (unprotect receiver buf n) (outcome d .answer) (A (outcome d .session)))
         (otherAt x m (unprotect receiver buf n) (outcome d .answer) (O (outcome d .session)))
         → AsTheLedger (h .policy) sent held (arrivalAt m (unprotect receiver buf n) (outcome d .answer) (A (outcome d .session)))
@@ -283,7 +284,7 @@ module _ (h : Setup) (x rollover : ℕ) (large : rollover < 2 ^ 32) (sent : List
       all-follow cs (λ k. marks (suc k)) _ held
       (record {
         rec = o .rec;
-        holds = holds-settled h x Receiving (o .rec) (s .atReceiver) buf (ssrcOf (take n buf)) Sending (protectDone (s .atReceiver) buf n) (λ w y. ways-differ w) (o .holds);
+        holds = holds-settled h x Receiving (o .rec) (s .atReceiver) buf (ssrcOf (take n buf)) Sending (doneBy Sending (s .atReceiver) buf n) (λ w y. ways-differ w) (o .holds);
         start = o .start;
         remembers = o .remembers;
       }) p
@@ -293,7 +294,7 @@ module _ (h : Setup) (x rollover : ℕ) (large : rollover < 2 ^ 32) (sent : List
       (λ t. arrivalsOf (λ k. marks (suc k)) (eventsOf (record { atSender = s .atSender; atReceiver = t }) cs))
       (λ t. othersOf x (λ k. marks (suc k)) (eventsOf (record { atSender = s .atSender; atReceiver = t }) cs))
       (λ l t f q. all-follow cs (λ k. marks (suc k)) (record { atSender = s .atSender; atReceiver = t }) l f q)
-      (marks 0) (unprotectDone (s .atReceiver) buf n) refl p
+      (marks 0) (doneBy Receiving (s .atReceiver) buf n) refl p
 
   -- from the add on
   from-add : (rest : List Event) → Behind h receiver x Receiving rollover rest → (marks : ℕ → Mark) → Premises x rollover sent marks rest

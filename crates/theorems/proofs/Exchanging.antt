@@ -1,39 +1,45 @@
 -- Two neighbouring packet calls for different streams change places.
 use mathlib.Core.Path.{_≡_, refl, ap, _∙_, sym}
+use mathlib.Core.Bool.{false}
 use mathlib.Core.List.{List, [], _∷_}
-use mathlib.Core.Logic.{_⊎_, inl, inr, ⊎-elim}
-use Prim.Native.Nat.{ℕ, zero, suc, _≤_}
+use mathlib.Core.Logic.{_⊎_, ⊎-elim}
+use Prim.Native.Nat.{ℕ, zero, suc}
 use native.Mathlib.Omega.{arith}
 use lib.ListN.{getD}
 use Rattle.bits.specs.Refusals.{numberOf}
-use Rattle.bits.specs.declared.refusal.Refusal.{Refusal}
 use Rattle.bits.specs.declared.refusal.Refusal.the-variants as refusal
+use Rattle.rtp_elements.specs.Mask.{among}
 use Rattle.policies.specs.declared.policy.Way.{Way}
+use Rattle.policies.specs.declared.policy.Way.the-variants.{Sending, Receiving}
 use Rattle.session.specs.Session.{Setup, Session}
 use Rattle.session.specs.Records.{Found, recordFor}
-use Rattle.session.specs.Packets.{listedBy, Effect, refuse, give, protectEffect, unprotectEffect, Answer, Outcome, settled, protectOf, unprotectOf}
+use Rattle.session.specs.Packets.{Effect, refuse, give, Answer, Outcome, settled}
+use Rattle.session.proofs.Ways.{effectBy, outcome-is}
 use Rattle.theorems.specs.Answers.{bufferOf}
 use Rattle.theorems.specs.Lists.{End, sender, receiver, Call, add, protect, unprotect, endOf, Sessions, sessionAt, withSession, outcomeOf, answerOf, next, Event, event, callIn, answerIn, noEvent, after, eventsOf, Run, run}
 use Rattle.theorems.specs.Places.{IsPacketCall, ssrcIn, wayIn, LengthOrShort, DifferentStreams, exchanged, NeighboursChangePlaces}
-use Rattle.theorems.proofs.Refusing.{Refuses, Early, Timing, early, later, LateToProtect, LateToUnprotect, protect-timing, unprotect-timing}
+use Rattle.theorems.proofs.Records.{clash}
+use Rattle.theorems.proofs.Refusing.{lateNumbers, Refuses, Early, Timing, early, later, timing}
 use Rattle.theorems.proofs.Settling.{setup-settled, answer-settled, found-settled, settled-commute}
 use Rattle.theorems.proofs.Holding.{setup-next}
 
 -- ---- a packet call as its buffer and its effect
 
-abbrev pub effectIn : Setup → Call → Found → Effect
-effectIn h (add e x w r) found = refuse refusal.Keys
-effectIn h (protect e buf n) found = protectEffect (h .keys) (h .policy) (listedBy h) buf n found
-effectIn h (unprotect e buf n) found = unprotectEffect (h .keys) (h .policy) (listedBy h) buf n found
+abbrev sizeIn : Call → ℕ
+sizeIn (add e x w r) = 0
+sizeIn (protect e buf n) = n
+sizeIn (unprotect e buf n) = n
 
-abbrev pub effectOf : Session → Call → Effect
+abbrev effectIn : Setup → Call → Found → Effect
+effectIn h c = effectBy h (bufferOf c) (sizeIn c) (wayIn c)
+
+abbrev effectOf : Session → Call → Effect
 effectOf s c = effectIn (s .setup) c (recordFor (s .records) (ssrcIn c) (wayIn c))
 
-pub packet-call : (s : Session) (c : Call) → IsPacketCall c → outcomeOf s c ≡ settled s (bufferOf c) (ssrcIn c) (wayIn c) (effectOf s c)
-unfolding protectOf unprotectOf
+packet-call : (s : Session) (c : Call) → IsPacketCall c → outcomeOf s c ≡ settled s (bufferOf c) (ssrcIn c) (wayIn c) (effectOf s c)
 packet-call s (add e x w r) k = absurd k
-packet-call s (protect e buf n) k = refl
-packet-call s (unprotect e buf n) k = refl
+packet-call s (protect e buf n) k = outcome-is Sending s buf n
+packet-call s (unprotect e buf n) k = outcome-is Receiving s buf n
 
 -- ---- in one session
 
@@ -97,32 +103,21 @@ apart-commute s c d kc kd differ =
 -- ---- refused with LENGTH or SHORT
 
 -- a refusal that looks at the record, or a result, has another number
-late-read : (s : Session) (buf : List ℕ) (x : ℕ) (w : Way) (d : Effect) → Refuses (λ r. 8 ≤ numberOf r) d → LengthOrShort (settled s buf x w d .answer) → ⊥
-late-read s buf x w (refuse r) l a = ⊎-elim (λ z. omega arith) (λ z. omega arith) a
-late-read s buf x w (give m b t) l a = ⊎-elim (λ z. omega arith) (λ z. omega arith) a
+not-late : (way : Way) → (among (lateNumbers way) 1 ≡ false) × (among (lateNumbers way) 2 ≡ false)
+not-late Sending = (refl, refl)
+not-late Receiving = (refl, refl)
 
-weaker : (P Q : Refusal → Type 0) → ((r : Refusal) → P r → Q r) → (d : Effect) → Refuses P d → Refuses Q d
-weaker P Q f (refuse r) p = f r p
-weaker P Q f (give m b t) p = tt
-
-early-or-late : (h : Setup) (c : Call) → IsPacketCall c → Early (effectIn h c) ⊎ ((found : Found) → Refuses (λ r. 8 ≤ numberOf r) (effectIn h c found))
-early-or-late h (add e x w r) k = absurd k
-early-or-late h (protect e buf n) k = go (protect-timing h buf n)
-  where
-    go : Timing LateToProtect (protectEffect (h .keys) (h .policy) (listedBy h) buf n) → Early (protectEffect (h .keys) (h .policy) (listedBy h) buf n) ⊎ ((found : Found) → Refuses (λ r. 8 ≤ numberOf r) (protectEffect (h .keys) (h .policy) (listedBy h) buf n found))
-    go (early e l) = inl e
-    go (later l) = inr (λ found. weaker LateToProtect (λ r. 8 ≤ numberOf r) (λ r p. p .0) (protectEffect (h .keys) (h .policy) (listedBy h) buf n found) (l found))
-early-or-late h (unprotect e buf n) k = go (unprotect-timing h buf n)
-  where
-    go : Timing LateToUnprotect (unprotectEffect (h .keys) (h .policy) (listedBy h) buf n) → Early (unprotectEffect (h .keys) (h .policy) (listedBy h) buf n) ⊎ ((found : Found) → Refuses (λ r. 8 ≤ numberOf r) (unprotectEffect (h .keys) (h .policy) (listedBy h) buf n found))
-    go (early e l) = inl e
-    go (later l) = inr (λ found. weaker LateToUnprotect (λ r. 8 ≤ numberOf r) (λ r p. omega (arith, p .low)) (unprotectEffect (h .keys) (h .policy) (listedBy h) buf n found) (l found))
+late-read : (s : Session) (buf : List ℕ) (x : ℕ) (way : Way) (d : Effect) → Refuses (lateNumbers way) d → LengthOrShort (settled s buf x way d .answer) → ⊥
+late-read s buf x way (refuse r) l a = ⊎-elim (λ z. clash _ (rw z at l) (not-late way .0)) (λ z. clash _ (rw z at l) (not-late way .1)) a
+late-read s buf x way (give m b t) l a = ⊎-elim (λ z. omega arith) (λ z. omega arith) a
 
 unread-early : (s : Session) (c : Call) → IsPacketCall c → LengthOrShort (outcomeOf s c .answer) → Early (effectIn (s .setup) c)
-unread-early s c k a =
-    ⊎-elim (λ e. e)
-    (λ l. absurd (late-read s (bufferOf c) (ssrcIn c) (wayIn c) (effectOf s c) (l _) (rw (packet-call s c k) at a)))
-    (early-or-late (s .setup) c k)
+unread-early s c k a = go (timing (s .setup) (bufferOf c) (sizeIn c) (wayIn c))
+  where
+    go : Timing (lateNumbers (wayIn c)) (effectIn (s .setup) c) → Early (effectIn (s .setup) c)
+    go (early e) = e
+    go (later l) =
+        absurd (late-read s (bufferOf c) (ssrcIn c) (wayIn c) (effectOf s c) (l (recordFor (s .records) (ssrcIn c) (wayIn c))) (rw (packet-call s c k) at a))
 
 module _ (c : Call) (k : IsPacketCall c) (h : Setup) (e : Early (effectIn h c)) where
   abbrev refusedAs : Answer

@@ -16,18 +16,12 @@ use Rattle.policies.specs.declared.policy.Way.the-variants.{Sending, Receiving}
 use Rattle.session.specs.Session.{Record, Setup, Session}
 use Rattle.session.specs.Records.{none, some, recordFor, hasSsrc, freshRecord}
 use Rattle.session.specs.Adding.{addOf}
-use Rattle.session.specs.Packets.{listedBy, Effect, refuse, give, protectEffect, unprotectEffect, settled, protectOf, unprotectOf}
+use Rattle.session.specs.Packets.{Effect, refuse, give, settled, protectOf, unprotectOf}
+use Rattle.session.proofs.Ways.{effectBy, doneBy}
 use Rattle.theorems.specs.Lists.{End, sender, receiver, Call, add, protect, unprotect, endOf, Sessions, sessionAt, withSession, outcomeOf, answerOf, next, Event, event, callIn, added, noEvent, eventsOf, Bytes}
 use Rattle.theorems.specs.Sent.{Last, sentFrom}
 use Rattle.theorems.proofs.Records.{none-found, stored-ssrc, add-found, add-setup, add-new, add-made, add-absent, add-keeps}
 use Rattle.theorems.proofs.Settling.{setup-settled, found-settled, none-given}
-
--- what a packet call does, in its session
-abbrev pub protectDone : Session → List ℕ → ℕ → Effect
-protectDone s buf n = protectEffect (s .setup .keys) (s .setup .policy) (listedBy (s .setup)) buf n (recordFor (s .records) (ssrcOf (take n buf)) Sending)
-
-abbrev pub unprotectDone : Session → List ℕ → ℕ → Effect
-unprotectDone s buf n = unprotectEffect (s .setup .keys) (s .setup .policy) (listedBy (s .setup)) buf n (recordFor (s .records) (ssrcOf (take n buf)) Receiving)
 
 -- ---- a session with a record for a stream
 
@@ -50,8 +44,8 @@ holds-settled h x w r s buf y v d differ o =
 pub setup-outcome : (s : Session) (c : Call) → outcomeOf s c .session .setup ≡ s .setup
 unfolding protectOf unprotectOf
 setup-outcome s (add e x w rollover) = add-setup s x w rollover
-setup-outcome s (protect e buf n) = setup-settled s buf (ssrcOf (take n buf)) Sending (protectDone s buf n)
-setup-outcome s (unprotect e buf n) = setup-settled s buf (ssrcOf (take n buf)) Receiving (unprotectDone s buf n)
+setup-outcome s (protect e buf n) = setup-settled s buf (ssrcOf (take n buf)) Sending (doneBy Sending s buf n)
+setup-outcome s (unprotect e buf n) = setup-settled s buf (ssrcOf (take n buf)) Receiving (doneBy Receiving s buf n)
 
 setup-with : (e f : End) (s : Sessions) (t : Session) → t .setup ≡ sessionAt f s .setup → sessionAt e (withSession f s t) .setup ≡ sessionAt e s .setup
 setup-with sender sender s t h = h
@@ -119,9 +113,9 @@ module _ (x rollover : ℕ) where
   unfolding protectOf unprotectOf
   absent-next s (add sender y w r) e = add-absent (s .atSender) y w r x e
   absent-next s (add receiver y w r) e = e
-  absent-next s (protect sender buf n) e = absent-settled (s .atSender) buf (ssrcOf (take n buf)) Sending (protectDone (s .atSender) buf n) e
+  absent-next s (protect sender buf n) e = absent-settled (s .atSender) buf (ssrcOf (take n buf)) Sending (doneBy Sending (s .atSender) buf n) e
   absent-next s (protect receiver buf n) e = e
-  absent-next s (unprotect sender buf n) e = absent-settled (s .atSender) buf (ssrcOf (take n buf)) Receiving (unprotectDone (s .atSender) buf n) e
+  absent-next s (unprotect sender buf n) e = absent-settled (s .atSender) buf (ssrcOf (take n buf)) Receiving (doneBy Receiving (s .atSender) buf n) e
   absent-next s (unprotect receiver buf n) e = e
 
   absent-here : (s : Sessions) (c : Call) → c ≡ add sender x Sending rollover → answerOf s c .number ≡ 0 → hasSsrc (s .atSender .records) x ≡ false
@@ -134,20 +128,20 @@ module _ (x rollover : ℕ) where
 
   -- a call that sends nothing of the stream
   quiet-effect : (s : Session) (buf : List ℕ) (n : ℕ) (last : Last) (es : List Event) (b : Bool) (d : Effect) → hasSsrc (s .records) x ≡ false
-      → eqb (ssrcOf (take n buf)) x ≡ b → protectDone s buf n ≡ d
+      → eqb (ssrcOf (take n buf)) x ≡ b → doneBy Sending s buf n ≡ d
       → sentFrom x rollover last (event (protect sender buf n) (settled s buf (ssrcOf (take n buf)) Sending d .answer) ∷ es) ≡ sentFrom x rollover last es
   quiet-effect s buf n last es false d a e f = rw e
   quiet-effect s buf n last es true (refuse r) a e f = rw (e, ne-eqb (numberOf r) 0 (λ q. omega (arith, above-zero r)))
   quiet-effect s buf n last es true (give m b t) a e f =
       let y : ssrcOf (take n buf) ≡ x = eqb-true (ssrcOf (take n buf)) x e in
-      let own : protectDone s buf n ≡ protectEffect (s .setup .keys) (s .setup .policy) (listedBy (s .setup)) buf n none = rw (y, none-found (s .records) x Sending a) in
-      absurd (none-given (s .setup) buf n m b t (sym own ∙ f))
+      let own : doneBy Sending s buf n ≡ effectBy (s .setup) buf n Sending none = rw (y, none-found (s .records) x Sending a) in
+      absurd (none-given (s .setup) buf n Sending m b t (sym own ∙ f))
 
   quiet : (s : Sessions) (c : Call) (last : Last) (es : List Event) → hasSsrc (s .atSender .records) x ≡ false
       → sentFrom x rollover last (event c (answerOf s c) ∷ es) ≡ sentFrom x rollover last es
   unfolding protectOf
   quiet s (add e y w r) last es a = refl
-  quiet s (protect sender buf n) last es a = quiet-effect (s .atSender) buf n last es _ (protectDone (s .atSender) buf n) a refl refl
+  quiet s (protect sender buf n) last es a = quiet-effect (s .atSender) buf n last es _ (doneBy Sending (s .atSender) buf n) a refl refl
   quiet s (protect receiver buf n) last es a = refl
   quiet s (unprotect e buf n) last es a = refl
 

@@ -12,25 +12,22 @@ use Rattle.bits.proofs.Lists.{tabulate-ext}
 use Rattle.bits.specs.Bits.{packed}
 use Rattle.bits.specs.Pick.{pick}
 use Rattle.bits.specs.declared.refusal.Refusal.the-variants as refusal
-use Rattle.rtp_header.specs.declared.header.Header.{Header}
-use Rattle.rtp_header.specs.declared.header.Header.the-variants.{Read, Refused}
 use Rattle.rtp_header.specs.Header.{ssrcOf}
 use Rattle.replay.specs.State.{ReplayState}
 use Rattle.policies.specs.declared.policy.Way.{Way}
 use Rattle.policies.specs.declared.policy.Way.the-variants.{Sending, Receiving}
-use Rattle.policies.specs.Judging.{judgedOf}
-use Rattle.policies.proofs.Layouts.{apart}
-use Rattle.session.specs.Session.{Record, Setup, Session}
+use Rattle.session.specs.Session.{Record, Session}
 use Rattle.session.specs.Records.{isFree, isFor, freePlace, freshRecord, none, recordFor, withReplay, storeFor, hasSsrc, isFull, placed}
 use Rattle.session.specs.Making.{counts, idsOf, unmade, sessionOf, makeOf}
 use Rattle.session.specs.Adding.{addOf}
-use Rattle.session.specs.Packets.{listedBy, tagLength, Effect, refuse, give, unprotectRead, unprotectEffect, settled, protectOf, unprotectOf}
+use Rattle.session.specs.Packets.{Effect, refuse, give, settled, protectOf, unprotectOf}
 use Rattle.session.proofs.Ids.{ids-listed}
-use Rattle.theorems.specs.Lists.{End, sender, receiver, Call, add, protect, unprotect, Sessions, sessionAt, outcomeOf, next, after, justMade, EqualSets}
+use Rattle.session.proofs.Ways.{doneBy}
+use Rattle.theorems.specs.Lists.{End, sender, receiver, Call, add, protect, unprotect, endOf, Sessions, sessionAt, withSession, outcomeOf, next, after, justMade, EqualSets}
 use Rattle.theorems.specs.Sessions.{NoSsrcTwice, Sound, SessionsAreSound, EqualSetsEqualSessions, WordsAreTheSet}
 use Rattle.theorems.proofs.Records.{clash, or-false, free-for, stored-ssrc, addBy}
 use Rattle.theorems.proofs.Settling.{none-given}
-use Rattle.theorems.proofs.Holding.{protectDone, unprotectDone, setup-outcome}
+use Rattle.theorems.proofs.Holding.{setup-outcome}
 use Rattle.theorems.proofs.Sending.{madeBy}
 
 -- ---- no SSRC twice
@@ -111,39 +108,16 @@ none-free : (k x : ℕ) (w : Way) → recordFor (replicate k freePlace) x w ≡ 
 none-free zero x w = refl
 none-free (suc k) x w = rw (free-for freePlace x w refl) (none-free k x w)
 
-module _ (h : Setup) (buf : List ℕ) (n : ℕ) where
-  none-read : (l : Header) (m : ℕ) (b : List ℕ) (t : ReplayState) → unprotectRead (h .keys) (h .policy) (listedBy h) buf n l none ≡ give m b t → ⊥
-  none-read (Refused r) m b t g = apart cc
-  none-read (Read l) m b t g = apart cc
-
-  none-first : (c : Bool) (m : ℕ) (b : List ℕ) (t : ReplayState)
-      → pick c (refuse refusal.Length) (unprotectRead (h .keys) (h .policy) (listedBy h) buf n (judgedOf Receiving (h .policy) tagLength (take n buf)) none) ≡ give m b t → ⊥
-  none-first true m b t g = apart cc
-  none-first false m b t g = none-read (judgedOf Receiving (h .policy) tagLength (take n buf)) m b t g
-
-  none-unprotected : (m : ℕ) (b : List ℕ) (t : ReplayState) → unprotectEffect (h .keys) (h .policy) (listedBy h) buf n none ≡ give m b t → ⊥
-  unfolding unprotectEffect
-  none-unprotected m b t g = none-first (ltb (length buf) n) m b t g
-
 left : (s : Session) (buf : List ℕ) (x : ℕ) (w : Way) (d : Effect) → ((m : ℕ) (b : List ℕ) (t : ReplayState) → d ≡ give m b t → ⊥) → settled s buf x w d .session ≡ s
 left s buf x w (refuse r) never = refl
 left s buf x w (give m b t) never = absurd (never m b t refl)
 
-protect-left : (s : Session) (buf : List ℕ) (n : ℕ) → s ≡ sessionOf unmade → protectOf s buf n .session ≡ s
-unfolding protectOf
-protect-left s buf n e =
-    left s buf (ssrcOf (take n buf)) Sending (protectDone s buf n)
+packet-left : (way : Way) (s : Session) (buf : List ℕ) (n : ℕ) → s ≡ sessionOf unmade → settled s buf (ssrcOf (take n buf)) way (doneBy way s buf n) .session ≡ s
+packet-left way s buf n e =
+    left s buf (ssrcOf (take n buf)) way (doneBy way s buf n)
     (λ m b t g.
-    let free : recordFor (s .records) (ssrcOf (take n buf)) Sending ≡ none = rw e (none-free 32 (ssrcOf (take n buf)) Sending) in
-    none-given (s .setup) buf n m b t (rw free at g))
-
-unprotect-left : (s : Session) (buf : List ℕ) (n : ℕ) → s ≡ sessionOf unmade → unprotectOf s buf n .session ≡ s
-unfolding unprotectOf
-unprotect-left s buf n e =
-    left s buf (ssrcOf (take n buf)) Receiving (unprotectDone s buf n)
-    (λ m b t g.
-    let free : recordFor (s .records) (ssrcOf (take n buf)) Receiving ≡ none = rw e (none-free 32 (ssrcOf (take n buf)) Receiving) in
-    none-unprotected (s .setup) buf n m b t (rw free at g))
+    let free : recordFor (s .records) (ssrcOf (take n buf)) way ≡ none = rw e (none-free 32 (ssrcOf (take n buf)) way) in
+    none-given (s .setup) buf n way m b t (rw free at g))
 
 -- ---- each call
 
@@ -182,8 +156,8 @@ settled-sound s buf x w (give m b t) f o =
 kept : (s : Session) (c : Call) → Sound s → Sound (outcomeOf s c .session)
 unfolding addOf protectOf unprotectOf
 kept s (add e x w rollover) o = add-sound s x w rollover (s .setup .made) (hasSsrc (s .records) x) (isFull (s .records)) refl refl o
-kept s (protect e buf n) o = settled-sound s buf (ssrcOf (take n buf)) Sending (protectDone s buf n) (protect-left s buf n) o
-kept s (unprotect e buf n) o = settled-sound s buf (ssrcOf (take n buf)) Receiving (unprotectDone s buf n) (unprotect-left s buf n) o
+kept s (protect e buf n) o = settled-sound s buf (ssrcOf (take n buf)) Sending (doneBy Sending s buf n) (packet-left Sending s buf n) o
+kept s (unprotect e buf n) o = settled-sound s buf (ssrcOf (take n buf)) Receiving (doneBy Receiving s buf n) (packet-left Receiving s buf n) o
 
 -- ---- and every list
 
@@ -191,21 +165,20 @@ record BothSound (s : Sessions) : Type 0 where
   atSender : Sound (s .atSender)
   atReceiver : Sound (s .atReceiver)
 
+at-end : (e : End) (s : Sessions) → BothSound s → Sound (sessionAt e s)
+at-end sender s o = o .atSender
+at-end receiver s o = o .atReceiver
+
+with-sound : (e : End) (s : Sessions) (t : Session) → BothSound s → Sound t → BothSound (withSession e s t)
+with-sound sender s t o p = record { atSender = p; atReceiver = o .atReceiver }
+with-sound receiver s t o p = record { atSender = o .atSender; atReceiver = p }
+
 next-sound : (s : Sessions) (c : Call) → BothSound s → BothSound (next s c)
-next-sound s (add sender x w r) o = record { atSender = kept (s .atSender) (add sender x w r) (o .atSender); atReceiver = o .atReceiver }
-next-sound s (add receiver x w r) o = record { atSender = o .atSender; atReceiver = kept (s .atReceiver) (add receiver x w r) (o .atReceiver) }
-next-sound s (protect sender buf n) o = record { atSender = kept (s .atSender) (protect sender buf n) (o .atSender); atReceiver = o .atReceiver }
-next-sound s (protect receiver buf n) o = record { atSender = o .atSender; atReceiver = kept (s .atReceiver) (protect receiver buf n) (o .atReceiver) }
-next-sound s (unprotect sender buf n) o = record { atSender = kept (s .atSender) (unprotect sender buf n) (o .atSender); atReceiver = o .atReceiver }
-next-sound s (unprotect receiver buf n) o = record { atSender = o .atSender; atReceiver = kept (s .atReceiver) (unprotect receiver buf n) (o .atReceiver) }
+next-sound s c o = with-sound (endOf c) s (outcomeOf (sessionAt (endOf c) s) c .session) o (kept (sessionAt (endOf c) s) c (at-end (endOf c) s o))
 
 after-sound : (calls : List Call) (s : Sessions) → BothSound s → BothSound (after s calls)
 after-sound [] s o = o
 after-sound (c ∷ calls) s o = after-sound calls (next s c) (next-sound s c o)
-
-at-end : (e : End) (s : Sessions) → BothSound s → Sound (sessionAt e s)
-at-end sender s o = o .atSender
-at-end receiver s o = o .atReceiver
 
 pub sessions-are-sound : SessionsAreSound
 sessions-are-sound =

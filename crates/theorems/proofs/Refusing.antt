@@ -1,9 +1,9 @@
 -- Which numbers a call gives back, and which of them it gives without looking at the record.
-use mathlib.Core.Path.{_≡_, refl}
-use mathlib.Core.Bool.{Bool, true, false, not, _&&_}
-use mathlib.Core.List.{List}
-use Prim.Native.Nat.{ℕ, _+_, _-_, _*_, _^_, _≤_}
-use native.Mathlib.Omega.{arith}
+use mathlib.Core.Path.{_≡_, refl, _∙_}
+use mathlib.Core.Bool.{Bool, true, false, not, _&&_, _||_}
+use mathlib.Core.List.{List, [], _∷_}
+use Prim.Native.Nat.{ℕ, _+_, _-_, _*_, _^_}
+use borrow.Author.Tests.{eqb-true}
 use lib.Dec.{eqb, ltb, leb}
 use lib.IntN.{ℤ, pos, negsuc}
 use lib.ListN.{length, take}
@@ -15,6 +15,7 @@ use Rattle.rtp_header.specs.declared.header.Header.{Header}
 use Rattle.rtp_header.specs.declared.header.Header.the-variants.{Read, Refused}
 use Rattle.rtp_header.specs.declared.header.Layout.{Layout}
 use Rattle.rtp_header.specs.Header.{versionOf, layoutOf, boundedOf, headerOf, seqOf}
+use Rattle.rtp_elements.specs.Mask.{among}
 use Rattle.replay.specs.declared.answer.Judged.{Judged}
 use Rattle.replay.specs.declared.answer.Judged.the-variants.{Index, Refused as NoIndex}
 use Rattle.replay.specs.State.{ReplayState, judgeOf}
@@ -25,154 +26,164 @@ use Rattle.policies.specs.declared.policy.Policy.{Policy}
 use Rattle.policies.specs.declared.policy.Way.{Way}
 use Rattle.policies.specs.declared.policy.Way.the-variants.{Sending, Receiving}
 use Rattle.policies.specs.Judging.{tailOf, profileFits, elementsFit, sizeFits, judgedAfter, judgedOf}
+use Rattle.packet_cipher.proofs.Crypting.{and-left, and-right}
 use Rattle.wire.specs.Wire.{tagFits}
 use Rattle.session.specs.Session.{Setup}
 use Rattle.session.specs.Records.{Found, none, some}
-use Rattle.session.specs.Packets.{listedBy, tagLength, Effect, refuse, give, wireLength, protectAt, protectIn, protectRead, protectEffect, unprotectAt, unprotectIn, unprotectRead, unprotectEffect}
+use Rattle.session.specs.Packets.{listedBy, tagLength, Effect, refuse, give, wireLength, protectAt, unprotectAt}
+use Rattle.session.proofs.Ways.{stateBy, inBy, readBy, effectBy, effect-is}
+use Rattle.theorems.proofs.Records.{clash}
+
+-- ---- numbers in a list
+
+abbrev pub NumberIn : List ℕ → Refusal → Type 0
+NumberIn l r = among l (numberOf r) ≡ true
+
+-- each number of a list is in another: a test that computes
+abbrev pub within : List ℕ → List ℕ → Bool
+within [] m = true
+within (y ∷ l) m = among m y && within l m
+
+pub widen : (l m : List ℕ) → within l m ≡ true → (x : ℕ) → among l x ≡ true → among m x ≡ true
+widen [] m w x e = clash false e refl
+widen (y ∷ l) m w x e = go (eqb x y) refl e (widen l m (and-right (among m y) (within l m) w) x)
+  where
+    go : (b : Bool) → eqb x y ≡ b → (b || among l x) ≡ true → (among l x ≡ true → among m x ≡ true) → among m x ≡ true
+    go true q e rest = rw (eqb-true x y q) (and-left (among m y) (within l m) w)
+    go false q e rest = rest e
 
 -- ---- the parts of a call
 
-abbrev Between : ℕ → ℕ → Refusal → Type 0
-Between a b r = (a ≤ numberOf r) × (numberOf r ≤ b)
+abbrev pub HeaderIn : List ℕ → Header → Type 0
+HeaderIn l (Read h) = Unit {0}
+HeaderIn l (Refused r) = NumberIn l r
 
-abbrev pub HeaderBetween : ℕ → ℕ → Header → Type 0
-HeaderBetween a b (Read h) = Unit {0}
-HeaderBetween a b (Refused r) = Between a b r
+abbrev IndexIn : List ℕ → Judged → Type 0
+IndexIn l (Index i) = Unit {0}
+IndexIn l (NoIndex r) = NumberIn l r
 
-abbrev pub IndexBetween : ℕ → ℕ → Judged → Type 0
-IndexBetween a b (Index i) = Unit {0}
-IndexBetween a b (NoIndex r) = Between a b r
-
-header-by : (a b c : Bool) (h : Layout) → HeaderBetween 2 4 (pick a (Refused Short) (pick b (Refused Version) (pick c (Refused NoHeader) (Read h))))
-header-by true b c h = (omega arith, omega arith)
-header-by false true c h = (omega arith, omega arith)
-header-by false false true h = (omega arith, omega arith)
+header-by : (a b c : Bool) (h : Layout) → HeaderIn (2 ∷ 3 ∷ 4 ∷ []) (pick a (Refused Short) (pick b (Refused Version) (pick c (Refused NoHeader) (Read h))))
+header-by true b c h = refl
+header-by false true c h = refl
+header-by false false true h = refl
 header-by false false false h = tt
 
-looser : (h : Header) → HeaderBetween 2 4 h → HeaderBetween 2 7 h
-looser (Read h) e = tt
-looser (Refused r) e = (e .0, omega (arith, e .1))
-
-pub two-to-four : (p : List ℕ) (t : ℕ) → HeaderBetween 2 4 (headerOf p t)
+pub two-to-four : (p : List ℕ) (t : ℕ) → HeaderIn (2 ∷ 3 ∷ 4 ∷ []) (headerOf p t)
 unfolding headerOf boundedOf
 two-to-four p t = header-by (ltb (length p) (12 + t)) (not (eqb (versionOf p) 2)) (ltb (length p - t) (layoutOf p .payload)) (layoutOf p)
 
-judged-by : (a b c : Bool) (h : Layout) → HeaderBetween 2 7 (pick a (Refused Profile) (pick b (Refused Element) (pick c (Refused Large) (Read h))))
-judged-by true b c h = (omega arith, omega arith)
-judged-by false true c h = (omega arith, omega arith)
-judged-by false false true h = (omega arith, omega arith)
+-- 1 to 7, which no record decides
+abbrev pub earlyNumbers : List ℕ
+earlyNumbers = 1 ∷ 2 ∷ 3 ∷ 4 ∷ 5 ∷ 6 ∷ 7 ∷ []
+
+judged-by : (a b c : Bool) (h : Layout) → HeaderIn earlyNumbers (pick a (Refused Profile) (pick b (Refused Element) (pick c (Refused Large) (Read h))))
+judged-by true b c h = refl
+judged-by false true c h = refl
+judged-by false false true h = refl
 judged-by false false false h = tt
 
-after-by : (way : Way) (policy : Policy) (t : ℕ) (p : List ℕ) (h : Header) → HeaderBetween 2 7 h → HeaderBetween 2 7 (judgedAfter way policy t p h)
-after-by way policy t p (Refused r) e = e
+after-by : (way : Way) (policy : Policy) (t : ℕ) (p : List ℕ) (h : Header) → HeaderIn (2 ∷ 3 ∷ 4 ∷ []) h → HeaderIn earlyNumbers (judgedAfter way policy t p h)
+after-by way policy t p (Refused r) e = widen (2 ∷ 3 ∷ 4 ∷ []) earlyNumbers refl (numberOf r) e
 after-by way policy t p (Read h) e = judged-by (not (profileFits way policy h)) (not (elementsFit policy h p)) (not (sizeFits way policy t h p)) h
 
-pub two-to-seven : (way : Way) (policy : Policy) (t : ℕ) (p : List ℕ) → HeaderBetween 2 7 (judgedOf way policy t p)
+two-to-seven : (way : Way) (policy : Policy) (t : ℕ) (p : List ℕ) → HeaderIn earlyNumbers (judgedOf way policy t p)
 unfolding judgedOf
-two-to-seven way policy t p = after-by way policy t p (headerOf p (tailOf way t)) (looser (headerOf p (tailOf way t)) (two-to-four p (tailOf way t)))
+two-to-seven way policy t p = after-by way policy t p (headerOf p (tailOf way t)) (two-to-four p (tailOf way t))
 
-sent-by : (a b c : Bool) (i j : ℕ) → IndexBetween 10 11 (pick a (pick b (NoIndex Order) (pick c (NoIndex Worn) (Index i))) (Index j))
-sent-by true true c i j = (omega arith, omega arith)
-sent-by true false true i j = (omega arith, omega arith)
+sent-by : (a b c : Bool) (i j : ℕ) → IndexIn (10 ∷ 11 ∷ []) (pick a (pick b (NoIndex Order) (pick c (NoIndex Worn) (Index i))) (Index j))
+sent-by true true c i j = refl
+sent-by true false true i j = refl
 sent-by true false false i j = tt
 sent-by false b c i j = tt
 
-pub ten-or-eleven : (s : ReplayState) (rollover seq : ℕ) → IndexBetween 10 11 (sendOf s rollover seq .judged)
+ten-or-eleven : (s : ReplayState) (rollover seq : ℕ) → IndexIn (10 ∷ 11 ∷ []) (sendOf s rollover seq .judged)
 unfolding sendOf nextOf
 ten-or-eleven s rollover seq =
     sent-by (s .started) (not (leb 1 (stepOf (s .highest) seq) && leb (stepOf (s .highest) seq) 32767))
     (leb (2 ^ 48) (s .highest + stepOf (s .highest) seq)) (s .highest + stepOf (s .highest) seq) (rollover * 65536 + seq)
 
-got-by : (a b c d : Bool) (i : ℕ) → IndexBetween 11 13 (pick d (NoIndex Worn) (pick a (pick b (NoIndex Old) (pick c (NoIndex Repeat) (Index i))) (Index i)))
-got-by a b c true i = (omega arith, omega arith)
-got-by true true c false i = (omega arith, omega arith)
-got-by true false true false i = (omega arith, omega arith)
+got-by : (a b c d : Bool) (i : ℕ) → IndexIn (11 ∷ 12 ∷ 13 ∷ []) (pick d (NoIndex Worn) (pick a (pick b (NoIndex Old) (pick c (NoIndex Repeat) (Index i))) (Index i)))
+got-by a b c true i = refl
+got-by true true c false i = refl
+got-by true false true false i = refl
 got-by true false false false i = tt
 got-by false b c false i = tt
 
-index-by : (b W : ℕ) (s : ReplayState) (z : ℤ) → IndexBetween 11 13 (judgeIndex b W s z)
+index-by : (b W : ℕ) (s : ReplayState) (z : ℤ) → IndexIn (11 ∷ 12 ∷ 13 ∷ []) (judgeIndex b W s z)
 unfolding judgeOf
 index-by b W s (pos i) = got-by (s .started) (leb (i + W) (s .highest)) (seenIn b (s .window) i) (leb (2 ^ 48) i) i
-index-by b W s (negsuc n) = (omega arith, omega arith)
+index-by b W s (negsuc n) = refl
 
-pub eleven-to-thirteen : (b W : ℕ) (s : ReplayState) (rollover seq : ℕ) → IndexBetween 11 13 (receiveOf b W s rollover seq .judged)
+eleven-to-thirteen : (b W : ℕ) (s : ReplayState) (rollover seq : ℕ) → IndexIn (11 ∷ 12 ∷ 13 ∷ []) (receiveOf b W s rollover seq .judged)
 unfolding receiveOf
 eleven-to-thirteen b W s rollover seq = index-by b W s (indexFor s rollover seq)
 
 -- ---- a call, seen from its record
 
-abbrev pub Refuses : (Refusal → Type 0) → Effect → Type 0
-Refuses P (refuse r) = P r
-Refuses P (give m b t) = Unit {0}
+abbrev pub Refuses : List ℕ → Effect → Type 0
+Refuses l (refuse r) = NumberIn l r
+Refuses l (give m b t) = Unit {0}
+
+pub refuses-within : (l m : List ℕ) → within l m ≡ true → (d : Effect) → Refuses l d → Refuses m d
+refuses-within l m w (refuse r) p = widen l m w (numberOf r) p
+refuses-within l m w (give n b t) p = tt
+
+-- ROOM, and what the record decides
+abbrev pub lateNumbers : Way → List ℕ
+lateNumbers Sending = 8 ∷ 9 ∷ 10 ∷ 11 ∷ []
+lateNumbers Receiving = 9 ∷ 11 ∷ 12 ∷ 13 ∷ 14 ∷ []
 
 -- refused with one refusal, whatever the record
 pub record Early (act : Found → Effect) : Type 0 where
   pub reason : Refusal
+  pub number : NumberIn earlyNumbers reason
   pub refuses : (found : Found) → act found ≡ refuse reason
 
 -- 1 to 7 are early; or the numbers are late ones
-pub data Timing (late : Refusal → Type 0) (act : Found → Effect) : Type 0 where
-  early : (e : Early act) → numberOf (e .reason) ≤ 7 → Timing late act
+pub data Timing (late : List ℕ) (act : Found → Effect) : Type 0 where
+  early : Early act → Timing late act
   later : ((found : Found) → Refuses late (act found)) → Timing late act
 
-abbrev pub LateToProtect : Refusal → Type 0
-LateToProtect r = Between 8 11 r
-
--- 9 and 11 to 14
-pub record LateToUnprotect (r : Refusal) : Type 0 where
-  pub low : 9 ≤ numberOf r
-  pub not-ten : numberOf r ≡ 10 → ⊥
-  pub high : numberOf r ≤ 14
-
 module _ (setup : Setup) (buf : List ℕ) (n : ℕ) where
-  protect-at : (j : Judged) (t : ReplayState) → IndexBetween 10 11 j → Refuses LateToProtect (protectAt (setup .keys) (setup .policy) (listedBy setup) buf n j t)
-  protect-at (Index i) t e = tt
-  protect-at (NoIndex r) t e = (omega (arith, e .0), e .1)
+  sent-late : (j : Judged) (t : ReplayState) → IndexIn (10 ∷ 11 ∷ []) j → Refuses (lateNumbers Sending) (protectAt (setup .keys) (setup .policy) (listedBy setup) buf n j t)
+  sent-late (Index i) t e = tt
+  sent-late (NoIndex r) t e = widen (10 ∷ 11 ∷ []) (lateNumbers Sending) refl (numberOf r) e
 
-  protect-in : (room : Bool) (found : Found) → Refuses LateToProtect (pick room (refuse Room) (protectIn (setup .keys) (setup .policy) (listedBy setup) buf n found))
-  protect-in true found = (omega arith, omega arith)
-  protect-in false none = (omega arith, omega arith)
-  protect-in false (some r) =
-      protect-at (sendOf (r .replay) (r .rollover) (seqOf (take n buf)) .judged) (sendOf (r .replay) (r .rollover) (seqOf (take n buf)) .state)
-      (ten-or-eleven (r .replay) (r .rollover) (seqOf (take n buf)))
+  tag-late : (fits : Bool) (m : ℕ) (b : List ℕ) (t : ReplayState) → Refuses (lateNumbers Receiving) (pick fits (give m b t) (refuse Tag))
+  tag-late true m b t = tt
+  tag-late false m b t = refl
 
-  protect-read : (h : Header) → HeaderBetween 2 7 h → Timing LateToProtect (protectRead (setup .keys) (setup .policy) (listedBy setup) buf n h)
-  protect-read (Refused r) e = early (record { reason = r; refuses = λ found. refl }) (e .1)
-  protect-read (Read h) e = later (λ found. protect-in (ltb (length buf) (wireLength (setup .policy) buf n)) found)
+  received-late : (j : Judged) (t : ReplayState) → IndexIn (11 ∷ 12 ∷ 13 ∷ []) j → Refuses (lateNumbers Receiving) (unprotectAt (setup .keys) (setup .policy) (listedBy setup) buf n j t)
+  received-late (Index i) t e = tag-late (tagFits tagLength (setup .keys) i (take n buf)) _ _ t
+  received-late (NoIndex r) t e = widen (11 ∷ 12 ∷ 13 ∷ []) (lateNumbers Receiving) refl (numberOf r) e
 
-  protect-first : (c : Bool) (h : Header) → HeaderBetween 2 7 h → Timing LateToProtect (λ found. pick c (refuse Length) (protectRead (setup .keys) (setup .policy) (listedBy setup) buf n h found))
-  protect-first true h e = early (record { reason = Length; refuses = λ found. refl }) (omega arith)
-  protect-first false h e = protect-read h e
-
-  pub protect-timing : Timing LateToProtect (protectEffect (setup .keys) (setup .policy) (listedBy setup) buf n)
-  unfolding protectEffect
-  protect-timing =
-      protect-first (ltb (length buf) n) (judgedOf Sending (setup .policy) tagLength (take n buf)) (two-to-seven Sending (setup .policy) tagLength (take n buf))
-
-  tag-by : (fits : Bool) (m : ℕ) (b : List ℕ) (t : ReplayState) → Refuses LateToUnprotect (pick fits (give m b t) (refuse Tag))
-  tag-by true m b t = tt
-  tag-by false m b t = record { low = omega arith; not-ten = λ e. omega arith; high = omega arith }
-
-  unprotect-at : (j : Judged) (t : ReplayState) → IndexBetween 11 13 j → Refuses LateToUnprotect (unprotectAt (setup .keys) (setup .policy) (listedBy setup) buf n j t)
-  unprotect-at (Index i) t e = tag-by (tagFits tagLength (setup .keys) i (take n buf)) _ _ t
-  unprotect-at (NoIndex r) t e = record { low = omega (arith, e .0); not-ten = λ z. omega (arith, e .0); high = omega (arith, e .1) }
-
-  unprotect-in : (found : Found) → Refuses LateToUnprotect (unprotectIn (setup .keys) (setup .policy) (listedBy setup) buf n found)
-  unprotect-in none = record { low = omega arith; not-ten = λ e. omega arith; high = omega arith }
-  unprotect-in (some r) =
-      unprotect-at (receiveOf blocks width (r .replay) (r .rollover) (seqOf (take n buf)) .judged)
-      (receiveOf blocks width (r .replay) (r .rollover) (seqOf (take n buf)) .state)
+  in-late : (way : Way) (found : Found) → Refuses (lateNumbers way) (inBy setup buf n way found)
+  in-late Sending none = refl
+  in-late Receiving none = refl
+  in-late Sending (some r) =
+      sent-late (sendOf (r .replay) (r .rollover) (seqOf (take n buf)) .judged) (stateBy Sending r (seqOf (take n buf))) (ten-or-eleven (r .replay) (r .rollover) (seqOf (take n buf)))
+  in-late Receiving (some r) =
+      received-late (receiveOf blocks width (r .replay) (r .rollover) (seqOf (take n buf)) .judged) (stateBy Receiving r (seqOf (take n buf)))
       (eleven-to-thirteen blocks width (r .replay) (r .rollover) (seqOf (take n buf)))
 
-  unprotect-read : (h : Header) → HeaderBetween 2 7 h → Timing LateToUnprotect (unprotectRead (setup .keys) (setup .policy) (listedBy setup) buf n h)
-  unprotect-read (Refused r) e = early (record { reason = r; refuses = λ found. refl }) (e .1)
-  unprotect-read (Read h) e = later unprotect-in
+  room-late : (room : Bool) (found : Found) → Refuses (lateNumbers Sending) (pick room (refuse Room) (inBy setup buf n Sending found))
+  room-late true found = refl
+  room-late false found = in-late Sending found
 
-  unprotect-first : (c : Bool) (h : Header) → HeaderBetween 2 7 h → Timing LateToUnprotect (λ found. pick c (refuse Length) (unprotectRead (setup .keys) (setup .policy) (listedBy setup) buf n h found))
-  unprotect-first true h e = early (record { reason = Length; refuses = λ found. refl }) (omega arith)
-  unprotect-first false h e = unprotect-read h e
+  read-timing : (way : Way) (h : Header) → HeaderIn earlyNumbers h → Timing (lateNumbers way) (readBy setup buf n way h)
+  read-timing Sending (Refused r) e = early (record { reason = r; number = e; refuses = λ found. refl })
+  read-timing Receiving (Refused r) e = early (record { reason = r; number = e; refuses = λ found. refl })
+  read-timing Sending (Read h) e = later (room-late (ltb (length buf) (wireLength (setup .policy) buf n)))
+  read-timing Receiving (Read h) e = later (in-late Receiving)
 
-  pub unprotect-timing : Timing LateToUnprotect (unprotectEffect (setup .keys) (setup .policy) (listedBy setup) buf n)
-  unfolding unprotectEffect
-  unprotect-timing =
-      unprotect-first (ltb (length buf) n) (judgedOf Receiving (setup .policy) tagLength (take n buf)) (two-to-seven Receiving (setup .policy) tagLength (take n buf))
+  first-timing : (way : Way) (c : Bool) (h : Header) → HeaderIn earlyNumbers h → Timing (lateNumbers way) (λ found. pick c (refuse Length) (readBy setup buf n way h found))
+  first-timing way true h e = early (record { reason = Length; number = refl; refuses = λ found. refl })
+  first-timing way false h e = read-timing way h e
+
+  pub timing : (way : Way) → Timing (lateNumbers way) (effectBy setup buf n way)
+  timing way = go (first-timing way (ltb (length buf) n) (judgedOf way (setup .policy) tagLength (take n buf)) (two-to-seven way (setup .policy) tagLength (take n buf)))
+    where
+      go : Timing (lateNumbers way) (λ found. pick (ltb (length buf) n) (refuse Length) (readBy setup buf n way (judgedOf way (setup .policy) tagLength (take n buf)) found))
+          → Timing (lateNumbers way) (effectBy setup buf n way)
+      go (early e) = early (record { reason = e .reason; number = e .number; refuses = λ found. effect-is setup buf n way found ∙ e .refuses found })
+      go (later l) = later (λ found. rw (effect-is setup buf n way found) (l found))

@@ -30,11 +30,12 @@ use Rattle.session.specs.Session.{Record, Setup, Session, Made}
 use Rattle.session.specs.Records.{some, withReplay, storeFor, freshRecord}
 use Rattle.session.specs.Making.{setupOf, sessionOf, notMade, makeOf}
 use Rattle.session.specs.Packets.{tagLength, listedBy, Effect, refuse, give, wireLength, protectEffect, Outcome, settled, protectOf, unprotectOf}
+use Rattle.session.proofs.Ways.{doneBy}
 use Rattle.theorems.specs.Lists.{sender, receiver, Call, add, protect, unprotect, Sessions, justMade, Event, added, noEvent, eventsOf, Bytes}
 use Rattle.theorems.specs.Sent.{Sent, Last, noneSent, lastSent, indexOf, sentBy, sentFrom, SentAs, SentUnderItsIndex}
 use Rattle.theorems.proofs.Records.{clash, found-stored}
 use Rattle.theorems.proofs.Settling.{Given, given}
-use Rattle.theorems.proofs.Holding.{protectDone, unprotectDone, Holds, holds-add, holds-settled, Behind, behind-add, nothing-before}
+use Rattle.theorems.proofs.Holding.{Holds, holds-add, holds-settled, Behind, behind-add, nothing-before}
 
 ways-differ : Receiving ≡ Sending → ⊥
 ways-differ e = apart cc
@@ -119,7 +120,7 @@ module _ (h : Setup) (x rollover : ℕ) (large : rollover < 2 ^ 32) where
         (sentBy rollover last (take n buf) (outcome d .answer) ∷ K (lastSent (sentBy rollover last (take n buf) (outcome d .answer))) (outcome d .session))
         (K last (outcome d .session))
 
-    own : ssrcOf (take n buf) ≡ x → protectDone s buf n ≡ protectEffect (h .keys) (h .policy) (listedBy h) buf n (some (o .rec))
+    own : ssrcOf (take n buf) ≡ x → doneBy Sending s buf n ≡ protectEffect (h .keys) (h .policy) (listedBy h) buf n (some (o .rec))
     own e = rw (e, o .holds .setup, o .holds .found)
 
     module _ (e : ssrcOf (take n buf) ≡ x) (m : ℕ) (b : List ℕ) (t : ReplayState) (g : Given h buf n (o .rec) m b t) where
@@ -165,7 +166,7 @@ module _ (h : Setup) (x rollover : ℕ) (large : rollover < 2 ^ 32) where
             knows = rw (numbered .index, after) (refl, refl, numbered .low);
           }
 
-    by-effect : (b : Bool) (d : Effect) → eqb (ssrcOf (take n buf)) x ≡ b → protectDone s buf n ≡ d → Each (Good h x) (sentHere b d)
+    by-effect : (b : Bool) (d : Effect) → eqb (ssrcOf (take n buf)) x ≡ b → doneBy Sending s buf n ≡ d → Each (Good h x) (sentHere b d)
     by-effect false d e f =
         ih last (outcome d .session)
         (record {
@@ -196,7 +197,7 @@ module _ (h : Setup) (x rollover : ℕ) (large : rollover < 2 ^ 32) where
       all-good cs (b .1) _ last
       (record {
         rec = o .rec;
-        holds = holds-settled h x Sending (o .rec) (s .atSender) buf (ssrcOf (take n buf)) Receiving (unprotectDone (s .atSender) buf n) (λ w y. ways-differ w) (o .holds);
+        holds = holds-settled h x Sending (o .rec) (s .atSender) buf (ssrcOf (take n buf)) Receiving (doneBy Receiving (s .atSender) buf n) (λ w y. ways-differ w) (o .holds);
         start = o .start;
         knows = o .knows;
       })

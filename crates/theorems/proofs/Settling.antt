@@ -23,6 +23,7 @@ use Rattle.policies.proofs.Layouts.{apart}
 use Rattle.session.specs.Session.{Record, Setup, Session}
 use Rattle.session.specs.Records.{none, some, recordFor}
 use Rattle.session.specs.Packets.{tagLength, listedBy, Effect, refuse, give, wireLength, protectAt, protectIn, protectRead, protectEffect, settled}
+use Rattle.session.proofs.Ways.{effectBy, effect-cases}
 use Rattle.theorems.proofs.Records.{found-other, stores-commute}
 
 -- ---- what a call leaves
@@ -89,20 +90,6 @@ module _ (setup : Setup) (buf : List ℕ) (n : ℕ) where
   unfolding protectEffect
   given r m b t g = given-first r m b t (ltb (length buf) n) refl g
 
-  -- without a record there is none
-  none-in : (c : Bool) (m : ℕ) (b : List ℕ) (t : ReplayState) → pick c (refuse refusal.Room) (protectIn (setup .keys) (setup .policy) (listedBy setup) buf n none) ≡ give m b t → ⊥
-  none-in true m b t g = apart cc
-  none-in false m b t g = apart cc
-
-  none-read : (h : Header) (m : ℕ) (b : List ℕ) (t : ReplayState) → protectRead (setup .keys) (setup .policy) (listedBy setup) buf n h none ≡ give m b t → ⊥
-  none-read (Refused q) m b t g = apart cc
-  none-read (Read h) m b t g = none-in (ltb (length buf) (wireLength (setup .policy) buf n)) m b t g
-
-  none-first : (c : Bool) (m : ℕ) (b : List ℕ) (t : ReplayState)
-      → pick c (refuse refusal.Length) (protectRead (setup .keys) (setup .policy) (listedBy setup) buf n (judgedOf Sending (setup .policy) tagLength (take n buf)) none) ≡ give m b t → ⊥
-  none-first true m b t g = apart cc
-  none-first false m b t g = none-read (judgedOf Sending (setup .policy) tagLength (take n buf)) m b t g
-
-  pub none-given : (m : ℕ) (b : List ℕ) (t : ReplayState) → protectEffect (setup .keys) (setup .policy) (listedBy setup) buf n none ≡ give m b t → ⊥
-  unfolding protectEffect
-  none-given m b t g = none-first (ltb (length buf) n) m b t g
+-- without a record there is none, either way
+pub none-given : (setup : Setup) (buf : List ℕ) (n : ℕ) (way : Way) (m : ℕ) (b : List ℕ) (t : ReplayState) → effectBy setup buf n way none ≡ give m b t → ⊥
+none-given setup buf n way m b t = effect-cases setup buf n (λ d. d ≡ give m b t → ⊥) (λ r g. apart cc) way none (λ r e k c g. apart cc)
