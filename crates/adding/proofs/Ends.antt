@@ -26,7 +26,7 @@ use Rattle.session.specs.Places.{freeFrom}
 use Rattle.session.specs.Records.{kindOf, freshRecord, hasSsrc}
 use Rattle.session.proofs.Adding.{add-unmade, add-twice, add-full, add-placed}
 use Rattle.session.proofs.Memory.{made, not-made}
-use Rattle.session.proofs.Places.{free-here, full}
+use Rattle.session.proofs.Places.{first-here, nowhere, free, full}
 
 -- zeros with the head word and the rollover
 pub fresh-is : (ssrc : ℕ) (way : Way) (rollover : ℕ) → set (set (replicate each 0) 0 (headWord (kindOf way) ssrc)) 1 rollover ≡ recordWords (freshRecord ssrc way rollover)
@@ -77,12 +77,12 @@ module _ (words : List ℕ) (ssrc way rollover : ℕ) where
 
         module _ (once : hasSsrc (decode words .records) ssrc ≡ false) (p : Place) (isPlace : p ≡ freeFrom 0 (decode words .records)) where
           pub add-full-in : p ≡ Nowhere → Leaves (addCall words ssrc way rollover) (numberOf refusal.Full) words
-          add-full-in e = refused refusal.Full (add-full (decode words) ssrc (wayOf way) rollover is-made once (full (decode words .records) (sym isPlace ∙ e)))
+          add-full-in e = refused refusal.Full (add-full (decode words) ssrc (wayOf way) rollover is-made once (full (decode words .records) (nowhere free 0 (decode words .records) (sym isPlace ∙ e) .found)))
 
           pub add-placed-in : (i : ℕ) → p ≡ At i → (memory : List ℕ) → memory ≡ withRecordAt words i (freshRecord ssrc (wayOf way) rollover)
               → Leaves (addCall words ssrc way rollover) 0 memory
           add-placed-in i e memory is =
               let f : freeFrom 0 (decode words .records) ≡ At i = sym isPlace ∙ e in
               let n : added .number ≡ 0 =
-              ap (λ (m : Made). m .number) (add-placed (decode words) ssrc (wayOf way) rollover is-made once i (free-here (decode words .records) i f)) in
+              ap (λ (m : Made). m .number) (add-placed (decode words) ssrc (wayOf way) rollover is-made once i (first-here free (decode words .records) i f)) in
               on-memory (record { number = sym n; words = is ∙ sym (rw (n, f)) })

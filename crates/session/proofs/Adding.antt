@@ -8,7 +8,7 @@ use Rattle.policies.specs.declared.policy.Way.{Way}
 use Rattle.session.specs.Session.{Session}
 use Rattle.session.specs.Adding.{notAdded, addOf}
 use Rattle.session.specs.Records.{freshRecord, hasSsrc, isFull}
-use Rattle.session.proofs.Places.{FreeHere}
+use Rattle.session.proofs.Places.{First, free, not-full}
 
 module _ (s : Session) (ssrc : ℕ) (way : Way) (rollover : ℕ) where
   pub add-unmade : s .setup .made ≡ false → addOf s ssrc way rollover ≡ notAdded s refusal.Keys
@@ -23,7 +23,7 @@ module _ (s : Session) (ssrc : ℕ) (way : Way) (rollover : ℕ) where
   unfolding addOf
   add-full m h f = rw (m, h, f)
 
-  pub add-placed : s .setup .made ≡ true → hasSsrc (s .records) ssrc ≡ false → (i : ℕ) → FreeHere (s .records) i
+  pub add-placed : s .setup .made ≡ true → hasSsrc (s .records) ssrc ≡ false → (i : ℕ) → First free (s .records) i
       → addOf s ssrc way rollover ≡ record { number = 0; session = record { setup = s .setup; records = set (s .records) i (freshRecord ssrc way rollover) } }
   unfolding addOf
-  add-placed m h i p = rw (m, h, p .room, p .stored (freshRecord ssrc way rollover))
+  add-placed m h i p = rw (m, h, not-full (s .records) _ (p .found), p .changed (λ r. freshRecord ssrc way rollover))

@@ -1,8 +1,8 @@
 -- What memory holds after a call: the session that the call's definition gives back.
 use mathlib.Core.Path.{_≡_, refl, sym, ap, _∙_}
 use mathlib.Core.Bool.{Bool, true, false, not}
-use mathlib.Core.List.{List, [], _∷_}
-use Prim.Native.Nat.{ℕ, suc, _+_, _^_, _≤_, _<_}
+use mathlib.Core.List.{List}
+use Prim.Native.Nat.{ℕ, _+_, _^_, _≤_, _<_}
 use native.Mathlib.Omega.{arith}
 use borrow.Author.Tests.{eq-eqb, ne-eqb}
 use lib.ListN.{length, getD, set, take}
@@ -31,7 +31,7 @@ use Rattle.session.specs.Places.{noRecord, placeFrom, freeFrom}
 use Rattle.session.specs.Calls.{Left, withoutBuffer, withReplayAt, withRecordAt, placedAt, addedIn, settledIn}
 use Rattle.session.specs.Memory.{number, recordLayout, theReplay, each, recordWords, setupLayout, theMark, isMark, setupFrom, size, recordPlace, recordsIn, setupAt, decode}
 use Rattle.session.specs.RoundTrip.{RecordFits}
-use Rattle.session.proofs.Places.{found-here, free-here, full}
+use Rattle.session.proofs.Places.{first-here, nowhere, free, full}
 use Rattle.session.proofs.Memory.{made, not-made, unmade-nowhere}
 use Rattle.session.proofs.Records.{record-kept, record-length, records-length, record-became, replay-became}
 use Rattle.session.proofs.Ways.{outcomeBy, callBy, doneBy, call-is, outcome-is}
@@ -78,15 +78,6 @@ module _ (words : List ℕ) (sized : length words ≡ size) (i : ℕ) (inside : 
 
 -- ---- protect and unprotect
 
-nowhere-stores : (k : ℕ) (l : List Record) (x : ℕ) (w : Way) (t : ReplayState) → placeFrom k l x w ≡ Nowhere → storeFor l x w t ≡ l
-nowhere-stores k [] x w t e = refl
-nowhere-stores k (r ∷ l) x w t e = go (isFor r x w) (nowhere-stores (suc k) l x w t) e
-  where
-    go : (b : Bool) → (placeFrom (suc k) l x w ≡ Nowhere → storeFor l x w t ≡ l) → pick b (At k) (placeFrom (suc k) l x w) ≡ Nowhere
-        → pick b (withReplay r t ∷ l) (r ∷ storeFor l x w t) ≡ r ∷ l
-    go true rec e = apart cc
-    go false rec e = ap (λ (q : List Record). r ∷ q) (rec e)
-
 -- what a call leaves of memory decodes to the session afterwards, and is as long
 pub record Holds (l : Left) (s : Session) : Type 0 where
   pub session : decode (l .words) ≡ s
@@ -99,7 +90,7 @@ module _ (words : List ℕ) (sized : length words ≡ size) (buf : List ℕ) (x 
       go : (b : Bool) → isMark (word words 0) ≡ b → (isMark (word words 0) ≡ true) × (i < 32)
       go true m =
           let n : length (decode words .records) ≡ 32 = ap (λ (s : Session). length (s .records)) (made words m) ∙ records-length words in
-          (m, omega (arith, found-here (decode words .records) x way i e .inside))
+          (m, omega (arith, first-here (λ r. isFor r x way) (decode words .records) i e .inside))
       go false m = apart (let z = unmade-nowhere words m x way in cc)
 
   settled-holds : (e : Effect) → EffectFits e → Holds (settledIn words x way (settled (decode words) buf x way e)) (settled (decode words) buf x way e .session)
@@ -111,18 +102,18 @@ module _ (words : List ℕ) (sized : length words ≡ size) (buf : List ℕ) (x 
       go Nowhere e =
           rw e
           (record {
-            session = sym (ap (λ (l : List Record). record { setup = decode words .setup; records = l }) (nowhere-stores 0 (decode words .records) x way t e));
+            session = sym (ap (λ (l : List Record). record { setup = decode words .setup; records = l }) (nowhere (λ r. isFor r x way) 0 (decode words .records) e .changed (λ r. withReplay r t)));
             long = sized;
           })
       go (At i) e =
-          let h = found-here (decode words .records) x way i e in
+          let h = first-here (λ r. isFor r x way) (decode words .records) i e in
           let q = found-in i e in
           let r : getD (storeFor (decode words .records) x way t) i noRecord .replay ≡ t =
-          ap (λ (l : List Record). getD l i noRecord .replay) (h .stored t)
+          ap (λ (l : List Record). getD l i noRecord .replay) (h .changed (λ r. withReplay r t))
           ∙ ap (λ (k : Record). k .replay) (getD-set-same (decode words .records) i (withReplay (getD (decode words .records) i noRecord) t) noRecord (h .inside)) in
           rw (e, r)
           (record {
-            session = replay-decodes words sized i (q .1) (q .0) t f ∙ sym (ap (λ (l : List Record). record { setup = decode words .setup; records = l }) (h .stored t));
+            session = replay-decodes words sized i (q .1) (q .0) t f ∙ sym (ap (λ (l : List Record). record { setup = decode words .setup; records = l }) (h .changed (λ r. withReplay r t)));
             long = replay-long words sized i (q .1) t f;
           })
 
@@ -155,9 +146,9 @@ module _ (words : List ℕ) (sized : length words ≡ size) (ssrc rollover : ℕ
 
   placed-holds : decode words .setup .made ≡ true → isFull (decode words .records) ≡ false → (p : Place) → freeFrom 0 (decode words .records) ≡ p
       → Holds (withoutBuffer 0 (placedAt words (freeFrom 0 (decode words .records)) new)) (record { setup = decode words .setup; records = placed (decode words .records) new })
-  placed-holds m f Nowhere e = apart (let z = full (decode words .records) e in cc)
+  placed-holds m f Nowhere e = apart (let z = full (decode words .records) (nowhere free 0 (decode words .records) e .found) in cc)
   placed-holds m f (At i) e =
-      let h = free-here (decode words .records) i e in
+      let h = first-here free (decode words .records) i e in
       let k = is-marked m in
       let n : length (decode words .records) ≡ 32 = ap (λ (s : Session). length (s .records)) (made words k) ∙ records-length words in
       let j : i < 32 = omega (arith, h .inside) in
@@ -166,7 +157,7 @@ module _ (words : List ℕ) (sized : length words ≡ size) (ssrc rollover : ℕ
       (record {
         session =
             record-decodes words sized i j k new fits
-            ∙ sym (ap (λ (l : List Record). record { setup = decode words .setup; records = l }) (h .stored new));
+            ∙ sym (ap (λ (l : List Record). record { setup = decode words .setup; records = l }) (h .changed (λ r. new)));
         long = record-long words sized i j new fits;
       })
 

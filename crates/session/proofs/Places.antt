@@ -9,41 +9,28 @@ use lib.Dec.{eqb}
 use lib.ListN.{length, getD, set, drop, drop-of-length-le}
 use lib.Seq.{drop-cons}
 use Rattle.bits.specs.Pick.{pick}
-use Rattle.policies.specs.declared.policy.Way.{Way}
 use Rattle.policies.proofs.Layouts.{apart}
-use Rattle.replay.specs.State.{ReplayState}
 use Rattle.session.specs.declared.place.Place.the-variants.{At, Nowhere}
 use Rattle.session.specs.Session.{Record}
-use Rattle.session.specs.Records.{isFree, isFor, none, some, recordFor, withReplay, storeFor, hasSsrc, isFull, placed}
-use Rattle.session.specs.Places.{noRecord, placeFrom, freeFrom}
+use Rattle.session.specs.Records.{isFree, none, some, firstIn, changeFirst, hasSsrc, isFull}
+use Rattle.session.specs.Places.{noRecord, firstFrom}
 
 -- ---- one step of a scan
 
+module _ (test : Record → Bool) (l : List Record) (i : ℕ) where
+  first-step : i < length l → firstFrom test i (drop i l) ≡ pick (test (getD l i noRecord)) (At i) (firstFrom test (i + 1) (drop (i + 1) l))
+  first-step h = rw (drop-cons l i noRecord, add-one)
+
+  pub first-hit : i < length l → test (getD l i noRecord) ≡ true → firstFrom test i (drop i l) ≡ At i
+  first-hit h e = first-step h ∙ rw e
+
+  pub first-miss : i < length l → test (getD l i noRecord) ≡ false → firstFrom test i (drop i l) ≡ firstFrom test (i + 1) (drop (i + 1) l)
+  first-miss h e = first-step h ∙ rw e
+
+  pub first-over : length l ≤ i → firstFrom test i (drop i l) ≡ Nowhere
+  first-over h = rw drop-of-length-le
+
 module _ (l : List Record) (i : ℕ) where
-  place-step : (x : ℕ) (w : Way) → i < length l → placeFrom i (drop i l) x w ≡ pick (isFor (getD l i noRecord) x w) (At i) (placeFrom (i + 1) (drop (i + 1) l) x w)
-  place-step x w h = rw (drop-cons l i noRecord, add-one)
-
-  pub place-hit : (x : ℕ) (w : Way) → i < length l → isFor (getD l i noRecord) x w ≡ true → placeFrom i (drop i l) x w ≡ At i
-  place-hit x w h e = place-step x w h ∙ rw e
-
-  pub place-miss : (x : ℕ) (w : Way) → i < length l → isFor (getD l i noRecord) x w ≡ false → placeFrom i (drop i l) x w ≡ placeFrom (i + 1) (drop (i + 1) l) x w
-  place-miss x w h e = place-step x w h ∙ rw e
-
-  pub place-over : (x : ℕ) (w : Way) → length l ≤ i → placeFrom i (drop i l) x w ≡ Nowhere
-  place-over x w h = rw drop-of-length-le
-
-  free-step : i < length l → freeFrom i (drop i l) ≡ pick (isFree (getD l i noRecord .kind)) (At i) (freeFrom (i + 1) (drop (i + 1) l))
-  free-step h = rw (drop-cons l i noRecord, add-one)
-
-  pub free-hit : i < length l → isFree (getD l i noRecord .kind) ≡ true → freeFrom i (drop i l) ≡ At i
-  free-hit h e = free-step h ∙ rw e
-
-  pub free-miss : i < length l → isFree (getD l i noRecord .kind) ≡ false → freeFrom i (drop i l) ≡ freeFrom (i + 1) (drop (i + 1) l)
-  free-miss h e = free-step h ∙ rw e
-
-  pub free-over : length l ≤ i → freeFrom i (drop i l) ≡ Nowhere
-  free-over h = rw drop-of-length-le
-
   abbrev isOf : ℕ → Bool
   isOf x = not (isFree (getD l i noRecord .kind)) && eqb (getD l i noRecord .ssrc) x
 
@@ -59,104 +46,77 @@ module _ (l : List Record) (i : ℕ) where
   pub ssrc-over : (x : ℕ) → length l ≤ i → hasSsrc (drop i l) x ≡ false
   ssrc-over x h = rw drop-of-length-le
 
--- ---- the record at a place
+-- ---- the first that passes a test
 
--- found at place i of a list whose first place is k
-record FoundAt (k : ℕ) (l : List Record) (x : ℕ) (w : Way) (i : ℕ) : Type 0 where
-  place : ℕ
-  counted : i ≡ k + place
-  inside : place < length l
-  found : recordFor l x w ≡ some (getD l place noRecord)
-  stored : (t : ReplayState) → storeFor l x w t ≡ set l place (withReplay (getD l place noRecord) t)
+module _ (test : Record → Bool) where
+  -- at place i of a list whose first place is k
+  record FirstAt (k : ℕ) (l : List Record) (i : ℕ) : Type 0 where
+    place : ℕ
+    counted : i ≡ k + place
+    inside : place < length l
+    found : firstIn test l ≡ some (getD l place noRecord)
+    changed : (f : Record → Record) → changeFirst test f l ≡ set l place (f (getD l place noRecord))
 
-at-step : (k : ℕ) (q : Record) (l : List Record) (x : ℕ) (w : Way) (i : ℕ) (b : Bool) → isFor q x w ≡ b
-    → (placeFrom (suc k) l x w ≡ At i → FoundAt (suc k) l x w i) → pick b (At k) (placeFrom (suc k) l x w) ≡ At i → FoundAt k (q ∷ l) x w i
-at-step k q l x w i true h rec e =
-    let z : k ≡ i = cc in
-    record { place = 0; counted = omega arith; inside = omega arith; found = rw h; stored = λ t. rw h }
-at-step k q l x w i false h rec e =
-    let p = rec e in
-    record {
-      place = suc (p .place);
-      counted = omega (arith, p .counted);
-      inside = omega (arith, p .inside);
-      found = rw h (p .found);
-      stored = λ t. rw h (ap (λ (r : List Record). q ∷ r) (p .stored t));
-    }
+  at-step : (k : ℕ) (q : Record) (l : List Record) (i : ℕ) (b : Bool) → test q ≡ b → (firstFrom test (suc k) l ≡ At i → FirstAt (suc k) l i)
+      → pick b (At k) (firstFrom test (suc k) l) ≡ At i → FirstAt k (q ∷ l) i
+  at-step k q l i true h rec e =
+      let z : k ≡ i = cc in
+      record { place = 0; counted = omega arith; inside = omega arith; found = rw h; changed = λ f. rw h }
+  at-step k q l i false h rec e =
+      let p = rec e in
+      record {
+        place = suc (p .place);
+        counted = omega (arith, p .counted);
+        inside = omega (arith, p .inside);
+        found = rw h (p .found);
+        changed = λ f. rw h (ap (λ (r : List Record). q ∷ r) (p .changed f));
+      }
 
-found-at : (k : ℕ) (l : List Record) (x : ℕ) (w : Way) (i : ℕ) → placeFrom k l x w ≡ At i → FoundAt k l x w i
-found-at k [] x w i e = apart cc
-found-at k (q ∷ l) x w i e = at-step k q l x w i (isFor q x w) refl (found-at (suc k) l x w i) e
+  first-at : (k : ℕ) (l : List Record) (i : ℕ) → firstFrom test k l ≡ At i → FirstAt k l i
+  first-at k [] i e = apart cc
+  first-at k (q ∷ l) i e = at-step k q l i (test q) refl (first-at (suc k) l i) e
 
-pub record Here (l : List Record) (x : ℕ) (w : Way) (i : ℕ) : Type 0 where
-  pub inside : i < length l
-  pub found : recordFor l x w ≡ some (getD l i noRecord)
-  pub stored : (t : ReplayState) → storeFor l x w t ≡ set l i (withReplay (getD l i noRecord) t)
+  pub record First (l : List Record) (i : ℕ) : Type 0 where
+    pub inside : i < length l
+    pub found : firstIn test l ≡ some (getD l i noRecord)
+    pub changed : (f : Record → Record) → changeFirst test f l ≡ set l i (f (getD l i noRecord))
 
-pub found-here : (l : List Record) (x : ℕ) (w : Way) (i : ℕ) → placeFrom 0 l x w ≡ At i → Here l x w i
-found-here l x w i e =
-    let p = found-at 0 l x w i e in
-    let q : i ≡ p .place = omega (arith, p .counted) in
-    rw q (record { inside = p .inside; found = p .found; stored = p .stored })
+  pub first-here : (l : List Record) (i : ℕ) → firstFrom test 0 l ≡ At i → First l i
+  first-here l i e =
+      let p = first-at 0 l i e in
+      let q : i ≡ p .place = omega (arith, p .counted) in
+      rw q (record { inside = p .inside; found = p .found; changed = p .changed })
 
-nowhere-from : (k : ℕ) (l : List Record) (x : ℕ) (w : Way) → placeFrom k l x w ≡ Nowhere → recordFor l x w ≡ none
-nowhere-from k [] x w e = refl
-nowhere-from k (q ∷ l) x w e = go (isFor q x w) (nowhere-from (suc k) l x w) e
+  -- or there is none
+  pub record NoFirst (l : List Record) : Type 0 where
+    pub found : firstIn test l ≡ none
+    pub changed : (f : Record → Record) → changeFirst test f l ≡ l
+
+  pub nowhere : (k : ℕ) (l : List Record) → firstFrom test k l ≡ Nowhere → NoFirst l
+  nowhere k [] e = record { found = refl; changed = λ f. refl }
+  nowhere k (q ∷ l) e = go (test q) refl (nowhere (suc k) l) e
+    where
+      go : (b : Bool) → test q ≡ b → (firstFrom test (suc k) l ≡ Nowhere → NoFirst l) → pick b (At k) (firstFrom test (suc k) l) ≡ Nowhere → NoFirst (q ∷ l)
+      go true h rec e = apart cc
+      go false h rec e = let p = rec e in record { found = rw h (p .found); changed = λ f. rw h (ap (λ (r : List Record). q ∷ r) (p .changed f)) }
+
+-- ---- a free place, or none
+
+abbrev pub free : Record → Bool
+free r = isFree (r .kind)
+
+pub not-full : (l : List Record) (r : Record) → firstIn free l ≡ some r → isFull l ≡ false
+not-full [] r e = apart cc
+not-full (q ∷ l) r e = go (isFree (q .kind)) (not-full l r) e
   where
-    go : (b : Bool) → (placeFrom (suc k) l x w ≡ Nowhere → recordFor l x w ≡ none) → pick b (At k) (placeFrom (suc k) l x w) ≡ Nowhere
-        → pick b (some q) (recordFor l x w) ≡ none
-    go true rec e = apart cc
+    go : (b : Bool) → (firstIn free l ≡ some r → isFull l ≡ false) → pick b (some q) (firstIn free l) ≡ some r → (not b && isFull l) ≡ false
+    go true rec e = refl
     go false rec e = rec e
 
-pub nowhere : (l : List Record) (x : ℕ) (w : Way) → placeFrom 0 l x w ≡ Nowhere → recordFor l x w ≡ none
-nowhere l x w e = nowhere-from 0 l x w e
-
--- ---- a free place
-
-record FreeAt (k : ℕ) (l : List Record) (i : ℕ) : Type 0 where
-  place : ℕ
-  counted : i ≡ k + place
-  inside : place < length l
-  room : isFull l ≡ false
-  stored : (r : Record) → placed l r ≡ set l place r
-
-free-at-step : (k : ℕ) (q : Record) (l : List Record) (i : ℕ) (b : Bool) → isFree (q .kind) ≡ b → (freeFrom (suc k) l ≡ At i → FreeAt (suc k) l i)
-    → pick b (At k) (freeFrom (suc k) l) ≡ At i → FreeAt k (q ∷ l) i
-free-at-step k q l i true h rec e =
-    let z : k ≡ i = cc in
-    record { place = 0; counted = omega arith; inside = omega arith; room = rw h; stored = λ r. rw h }
-free-at-step k q l i false h rec e =
-    let p = rec e in
-    record {
-      place = suc (p .place);
-      counted = omega (arith, p .counted);
-      inside = omega (arith, p .inside);
-      room = rw h (p .room);
-      stored = λ r. rw h (ap (λ (m : List Record). q ∷ m) (p .stored r));
-    }
-
-free-at : (k : ℕ) (l : List Record) (i : ℕ) → freeFrom k l ≡ At i → FreeAt k l i
-free-at k [] i e = apart cc
-free-at k (q ∷ l) i e = free-at-step k q l i (isFree (q .kind)) refl (free-at (suc k) l i) e
-
-pub record FreeHere (l : List Record) (i : ℕ) : Type 0 where
-  pub inside : i < length l
-  pub room : isFull l ≡ false
-  pub stored : (r : Record) → placed l r ≡ set l i r
-
-pub free-here : (l : List Record) (i : ℕ) → freeFrom 0 l ≡ At i → FreeHere l i
-free-here l i e =
-    let p = free-at 0 l i e in
-    let q : i ≡ p .place = omega (arith, p .counted) in
-    rw q (record { inside = p .inside; room = p .room; stored = p .stored })
-
-full-from : (k : ℕ) (l : List Record) → freeFrom k l ≡ Nowhere → isFull l ≡ true
-full-from k [] e = refl
-full-from k (q ∷ l) e = go (isFree (q .kind)) (full-from (suc k) l) e
+pub full : (l : List Record) → firstIn free l ≡ none → isFull l ≡ true
+full [] e = refl
+full (q ∷ l) e = go (isFree (q .kind)) (full l) e
   where
-    go : (b : Bool) → (freeFrom (suc k) l ≡ Nowhere → isFull l ≡ true) → pick b (At k) (freeFrom (suc k) l) ≡ Nowhere → (not b && isFull l) ≡ true
+    go : (b : Bool) → (firstIn free l ≡ none → isFull l ≡ true) → pick b (some q) (firstIn free l) ≡ none → (not b && isFull l) ≡ true
     go true rec e = apart cc
     go false rec e = rec e
-
-pub full : (l : List Record) → freeFrom 0 l ≡ Nowhere → isFull l ≡ true
-full l e = full-from 0 l e

@@ -1,5 +1,5 @@
 -- The places of records, counted from 0: where a stream's record stands, and where one can be added.
-use mathlib.Core.Bool.{false}
+use mathlib.Core.Bool.{Bool, false}
 use mathlib.Core.List.{List, [], _∷_}
 use Prim.Native.Nat.{ℕ, suc, _<_}
 use Rattle.bits.specs.Pick.{pick}
@@ -18,11 +18,14 @@ abbrev pub Inside : Place → Type 0
 Inside (At i) = i < 32
 Inside Nowhere = Unit {0}
 
--- the place of the record for an SSRC and a way, and the first free one, in a list whose first place is k
+-- the place of the first record that passes a test, in a list whose first place is k
+abbrev pub firstFrom : (Record → Bool) → ℕ → List Record → Place
+firstFrom test k [] = Nowhere
+firstFrom test k (r ∷ l) = pick (test r) (At k) (firstFrom test (suc k) l)
+
+-- that of the record for an SSRC and a way, and the first free one
 abbrev pub placeFrom : ℕ → List Record → ℕ → Way → Place
-placeFrom k [] ssrc way = Nowhere
-placeFrom k (r ∷ l) ssrc way = pick (isFor r ssrc way) (At k) (placeFrom (suc k) l ssrc way)
+placeFrom k l ssrc way = firstFrom (λ r. isFor r ssrc way) k l
 
 abbrev pub freeFrom : ℕ → List Record → Place
-freeFrom k [] = Nowhere
-freeFrom k (r ∷ l) = pick (isFree (r .kind)) (At k) (freeFrom (suc k) l)
+freeFrom k l = firstFrom (λ r. isFree (r .kind)) k l

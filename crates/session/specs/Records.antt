@@ -48,18 +48,25 @@ pub data Found : Type 0 where
   none : Found
   some : Record → Found
 
+-- the first that passes a test, and all of them with that one changed
+abbrev pub firstIn : (Record → Bool) → List Record → Found
+firstIn test [] = none
+firstIn test (r ∷ l) = pick (test r) (some r) (firstIn test l)
+
+abbrev pub changeFirst : (Record → Bool) → (Record → Record) → List Record → List Record
+changeFirst test change [] = []
+changeFirst test change (r ∷ l) = pick (test r) (change r ∷ l) (r ∷ changeFirst test change l)
+
 -- the record for this SSRC and this way
 abbrev pub recordFor : List Record → ℕ → Way → Found
-recordFor [] ssrc way = none
-recordFor (r ∷ l) ssrc way = pick (isFor r ssrc way) (some r) (recordFor l ssrc way)
+recordFor l ssrc way = firstIn (λ r. isFor r ssrc way) l
 
 -- and the records with another replay state in it
 abbrev pub withReplay : Record → ReplayState → Record
 withReplay r state = record { ssrc = r .ssrc; kind = r .kind; rollover = r .rollover; replay = state }
 
 abbrev pub storeFor : List Record → ℕ → Way → ReplayState → List Record
-storeFor [] ssrc way state = []
-storeFor (r ∷ l) ssrc way state = pick (isFor r ssrc way) (withReplay r state ∷ l) (r ∷ storeFor l ssrc way state)
+storeFor l ssrc way state = changeFirst (λ r. isFor r ssrc way) (λ r. withReplay r state) l
 
 -- this SSRC has a record, either way
 abbrev pub hasSsrc : List Record → ℕ → Bool
@@ -73,5 +80,4 @@ isFull (r ∷ l) = not (isFree (r .kind)) && isFull l
 
 -- The records with one more. The papers do not say in which place: it is the first that holds none.
 abbrev pub placed : List Record → Record → List Record
-placed [] new = []
-placed (r ∷ l) new = pick (isFree (r .kind)) (new ∷ l) (r ∷ placed l new)
+placed l new = changeFirst (λ r. isFree (r .kind)) (λ r. new) l

@@ -32,10 +32,10 @@ use Rattle.session.specs.Calls.{Left, wrongMemory, refusedWith, Gives, settledI
 use Rattle.session.specs.Memory.{isMark, policyAt, size, decode}
 use Rattle.session.specs.Packets.{tagLength, wireLength, Effect, refuse, give, settled}
 use Rattle.session.specs.Places.{noRecord, placeFrom}
-use Rattle.session.specs.Records.{none, some, recordFor, storeFor, withReplay}
+use Rattle.session.specs.Records.{isFor, none, some, recordFor, storeFor, withReplay}
 use Rattle.session.specs.Session.{Record, Session}
 use Rattle.session.proofs.Memory.{made, policy-is, unmade-nowhere}
-use Rattle.session.proofs.Places.{found-here, nowhere}
+use Rattle.session.proofs.Places.{first-here, nowhere}
 use Rattle.session.proofs.Ways.{inBy, readBy, callBy, effect-is, call-is, outcome-is}
 use Rattle.front.specs.declared.open.Opened.{Opened}
 use Rattle.records.specs.Tracks.{recordIn, judgedBy}
@@ -67,9 +67,9 @@ module _ (words buf : List ℕ) (n : ℕ) where
     its-left : (e : Effect) → settledBy way e ≡ leftBy words i buf e
     its-left (refuse r) = refused-left way r
     its-left (give m after t) =
-        let w = found-here (s .records) x way i here in
+        let w = first-here (λ r. isFor r x way) (s .records) i here in
         let r : getD (storeFor (s .records) x way t) i noRecord .replay ≡ t =
-        ap (λ (l : List Record). getD l i noRecord .replay) (w .stored t)
+        ap (λ (l : List Record). getD l i noRecord .replay) (w .changed (λ r. withReplay r t))
         ∙ ap (λ (q : Record). q .replay) (getD-set-same (s .records) i (withReplay (getD (s .records) i noRecord) t) noRecord (w .inside)) in
         rw (here, r)
 
@@ -106,9 +106,9 @@ module _ (words buf : List ℕ) (n : ℕ) where
   -- STREAM
   placed-left : (way : Way) (h : Layout) (p : Place) → placeFrom 0 (s .records) x way ≡ p
       → settledBy way (inBy (s .setup) buf n way (recordFor (s .records) x way)) ≡ endedBy way (openAt way words (take n buf) h p)
-  placed-left way h Nowhere e = rw (nowhere (s .records) x way e) (ap (settledBy way) (no-stream way) ∙ refused-left way refusal.Stream)
+  placed-left way h Nowhere e = rw (nowhere (λ r. isFor r x way) 0 (s .records) e .found) (ap (settledBy way) (no-stream way) ∙ refused-left way refusal.Stream)
   placed-left way h (At i) e =
-      rw (found-here (s .records) x way i e .found)
+      rw (first-here (λ r. isFor r x way) (s .records) i e .found)
       (its-left way i e (inBy (s .setup) buf n way (some (getD (s .records) i noRecord))) ∙ ap (leftBy words i buf) (its-effect way i e)
       ∙ index-left way h i (judgedBy way (recordIn words i) (seqOf (take n buf))) refl)
 

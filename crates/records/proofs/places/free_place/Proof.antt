@@ -7,7 +7,7 @@ use Rattle.session.specs.Memory.{recordsIn}
 use Rattle.session.proofs.Records.{records-length}
 use Rattle.session.specs.Records.{isFree}
 use Rattle.session.specs.Places.{freeFrom}
-use Rattle.session.proofs.Places.{free-hit, free-miss, free-over}
+use Rattle.session.proofs.Places.{first-hit, first-miss, first-over, free}
 use Rattle.session.proofs.Memory.{made, kind-at}
 use borrow.Author.Needs.{needs}
 use Rattle.records.proofs.places.free_place.Statement.{statement}
@@ -44,7 +44,7 @@ returns c =
     let h : k .loop .i < 32 = c .before .before .before .loop-test .taken in
     let l : length (recordsIn w) ≡ 32 = records-length w in
     let t = ap isFree (kind-at w (k .loop .i) h) ∙ sym (c .before .is-free .ensures) ∙ c .if1 .taken in
-    (rw (made w (k .before .before .pre .1)) (sym (k .loop .inv .1 ∙ free-hit (recordsIn w) (k .loop .i) (omega arith) t)), h)
+    (rw (made w (k .before .before .pre .1)) (sym (k .loop .inv .1 ∙ first-hit free (recordsIn w) (k .loop .i) (omega arith) t)), h)
 
 add-i : tie.Need-add-i Inv-loop μ-loop
 add-i c = search needs
@@ -59,14 +59,14 @@ loop-again c =
     let h : k .loop .i < 32 = c .before .before .before .loop-test .taken in
     let l : length (recordsIn w) ≡ 32 = records-length w in
     let t = ap isFree (kind-at w (k .loop .i) h) ∙ sym (c .before .is-free .ensures) ∙ c .if1 .left in
-    (omega arith, k .loop .inv .1 ∙ free-miss (recordsIn w) (k .loop .i) (omega arith) t)
+    (omega arith, k .loop .inv .1 ∙ first-miss free (recordsIn w) (k .loop .i) (omega arith) t)
 
 returns-2 : tie.Need-returns-2 Inv-loop μ-loop
 returns-2 c =
     let k = c .before in
     let w = k .before .before .args .session .now in
     let l : length (recordsIn w) ≡ 32 = records-length w in
-    (rw (made w (k .before .before .pre .1)) (sym (k .loop .inv .1 ∙ free-over (recordsIn w) (k .loop .i) (omega (arith, c .loop-test .left)))), tt)
+    (rw (made w (k .before .before .pre .1)) (sym (k .loop .inv .1 ∙ first-over free (recordsIn w) (k .loop .i) (omega (arith, c .loop-test .left)))), tt)
 
 pub free-place-spec : {M : Type 1} → statement M
 free-place-spec =

@@ -9,9 +9,9 @@ use Rattle.session.specs.Memory.{recordsIn}
 use Rattle.memory.specs.Words.{word}
 use Rattle.session.proofs.Records.{records-length}
 use Rattle.policies.specs.declared.policy.Way.{Way}
-use Rattle.session.specs.Records.{kindOf}
+use Rattle.session.specs.Records.{kindOf, isFor}
 use Rattle.session.specs.Places.{placeFrom}
-use Rattle.session.proofs.Places.{place-hit, place-miss, place-over}
+use Rattle.session.proofs.Places.{first-hit, first-miss, first-over}
 use Rattle.session.specs.Memory.{isMark, headWord}
 use Rattle.session.proofs.Memory.{made, for-head, unmade-nowhere}
 use borrow.Author.Needs.{needs}
@@ -62,7 +62,7 @@ returns-2 c =
     let e = for-head w (k .loop .i) h (s .args .ssrc) (s .fits .ssrc .fits) (s .args .way) in (
       rw (made w m)
           (sym (k .loop .inv .1 (s .args .way) (k .before .head-word .ensures)
-          ∙ place-hit (recordsIn w) (k .loop .i) (s .args .ssrc) (s .args .way) (omega arith)
+          ∙ first-hit (λ r. isFor r (s .args .ssrc) (s .args .way)) (recordsIn w) (k .loop .i) (omega arith)
           (e ∙ eq-eqb _ _ (c .if2 .taken ∙ k .before .head-word .ensures)))),
       h,
     )
@@ -83,7 +83,7 @@ loop-again c =
       omega arith,
       λ v e.
           k .loop .inv .1 v e
-          ∙ place-miss (recordsIn w) (k .loop .i) (s .args .ssrc) v (omega arith)
+          ∙ first-miss (λ r. isFor r (s .args .ssrc) v) (recordsIn w) (k .loop .i) (omega arith)
           (for-head w (k .loop .i) h (s .args .ssrc) (s .fits .ssrc .fits) v ∙ ne-eqb _ _ (λ q. c .if2 .left (q ∙ sym e))),
     )
 
@@ -96,7 +96,7 @@ returns-3 c =
     let m : isMark (word w 0) ≡ true = sym (k .before .before .before .is-made .ensures) ∙ not-false _ (k .before .before .if1 .left) in (
       rw (made w m)
           (sym (k .loop .inv .1 (s .args .way) (k .before .head-word .ensures)
-          ∙ place-over (recordsIn w) (k .loop .i) (s .args .ssrc) (s .args .way) (omega (arith, c .loop-test .left)))),
+          ∙ first-over (λ r. isFor r (s .args .ssrc) (s .args .way)) (recordsIn w) (k .loop .i) (omega (arith, c .loop-test .left)))),
       tt,
     )
 
