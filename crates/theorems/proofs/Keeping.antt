@@ -17,7 +17,7 @@ use Rattle.replay.specs.State.{ReplayState}
 use Rattle.policies.specs.declared.policy.Way.{Way}
 use Rattle.policies.specs.declared.policy.Way.the-variants.{Sending, Receiving}
 use Rattle.session.specs.Session.{Record, Session}
-use Rattle.session.specs.Records.{isFree, isFor, freePlace, freshRecord, none, recordFor, withReplay, storeFor, hasSsrc, isFull, placed}
+use Rattle.session.specs.Records.{isFree, isFor, freePlace, freshRecord, none, changeFirst, recordFor, withReplay, storeFor, hasSsrc, isFull, placed}
 use Rattle.session.specs.Making.{counts, idsOf, unmade, sessionOf, makeOf}
 use Rattle.session.specs.Adding.{addOf}
 use Rattle.session.specs.Packets.{Effect, refuse, give, settled, protectOf, unprotectOf}
@@ -86,19 +86,11 @@ once-placed n (q ∷ l) h o = go (isFree (q .kind)) refl (once-placed n l)
 
 -- ---- 32 places
 
-length-stored : (x : ℕ) (w : Way) (t : ReplayState) (l : List Record) → length (storeFor l x w t) ≡ length l
-length-stored x w t [] = refl
-length-stored x w t (q ∷ l) = go (isFor q x w) (length-stored x w t l)
+length-changed : (test : Record → Bool) (f : Record → Record) (l : List Record) → length (changeFirst test f l) ≡ length l
+length-changed test f [] = refl
+length-changed test f (q ∷ l) = go (test q) (length-changed test f l)
   where
-    go : (b : Bool) → length (storeFor l x w t) ≡ length l → length (pick b (withReplay q t ∷ l) (q ∷ storeFor l x w t)) ≡ length (q ∷ l)
-    go true rec = refl
-    go false rec = ap suc rec
-
-length-placed : (n : Record) (l : List Record) → length (placed l n) ≡ length l
-length-placed n [] = refl
-length-placed n (q ∷ l) = go (isFree (q .kind)) (length-placed n l)
-  where
-    go : (b : Bool) → length (placed l n) ≡ length l → length (pick b (n ∷ l) (q ∷ placed l n)) ≡ length (q ∷ l)
+    go : (b : Bool) → length (changeFirst test f l) ≡ length l → length (pick b (f q ∷ l) (q ∷ changeFirst test f l)) ≡ length (q ∷ l)
     go true rec = refl
     go false rec = ap suc rec
 
@@ -138,7 +130,7 @@ add-sound s x w rollover true false false e f o =
     record {
       keys = o .keys;
       not-made = λ z. clash _ e z;
-      places = length-placed (freshRecord x w rollover) (s .records) ∙ o .places;
+      places = length-changed (λ r. isFree (r .kind)) (λ r. freshRecord x w rollover) (s .records) ∙ o .places;
       once = once-placed (freshRecord x w rollover) (s .records) f (o .once);
     }
 
@@ -149,7 +141,7 @@ settled-sound s buf x w (give m b t) f o =
     record {
       keys = o .keys;
       not-made = λ z. f (o .not-made z) ∙ o .not-made z;
-      places = length-stored x w t (s .records) ∙ o .places;
+      places = length-changed (λ r. isFor r x w) (λ r. withReplay r t) (s .records) ∙ o .places;
       once = once-stored x w t (s .records) (o .once);
     }
 

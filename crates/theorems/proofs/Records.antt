@@ -14,7 +14,7 @@ use Rattle.policies.specs.declared.policy.Way.the-variants.{Sending, Receiving}
 use Rattle.packet_cipher.proofs.Crypting.{and-left, and-right}
 use Rattle.policies.proofs.Layouts.{apart}
 use Rattle.session.specs.Session.{Kind, Free, Sender, Receiver, Record, Session, Made}
-use Rattle.session.specs.Records.{kindOf, hasWay, isFree, isFor, freshRecord, none, some, recordFor, withReplay, storeFor, hasSsrc, isFull, placed}
+use Rattle.session.specs.Records.{kindOf, hasWay, isFree, isFor, freshRecord, none, some, firstIn, changeFirst, recordFor, withReplay, storeFor, hasSsrc, isFull, placed}
 use Rattle.session.specs.Adding.{notAdded, addOf}
 
 -- ---- tests
@@ -60,6 +60,19 @@ free-for r x w e = and-false (eqb (r .ssrc) x) (hasWay (r .kind) w) (λ p q. cla
 fresh-for : (x : ℕ) (w : Way) (rollover : ℕ) → isFor (freshRecord x w rollover) x w ≡ true
 fresh-for x w rollover = rw (eq-eqb x x refl) (own-way w)
 
+-- ---- a record changed
+
+-- what does not pass a test, before nor after, is not found by it
+module _ (test other : Record → Bool) (f : Record → Record) (passes : (r : Record) → other r ≡ true → (test r ≡ false) × (test (f r) ≡ false)) where
+  unfound-step : (q : Record) (l : List Record) (b : Bool) → other q ≡ b → firstIn test (changeFirst other f l) ≡ firstIn test l
+      → firstIn test (pick b (f q ∷ l) (q ∷ changeFirst other f l)) ≡ firstIn test (q ∷ l)
+  unfound-step q l true h rec = rw (passes q h .0, passes q h .1)
+  unfound-step q l false h rec = rw rec
+
+  unfound : (l : List Record) → firstIn test (changeFirst other f l) ≡ firstIn test l
+  unfound [] = refl
+  unfound (q ∷ l) = unfound-step q l (other q) refl (unfound l)
+
 -- ---- a replay state stored
 
 module _ (x : ℕ) (w : Way) (t : ReplayState) where
@@ -81,14 +94,8 @@ module _ (x y : ℕ) (w v : Way) (differ : w ≡ v → x ≡ y → ⊥) where
       and-false (eqb (r .ssrc) y) (hasWay (r .kind) v)
       (λ f g. differ (one-way (r .kind) w v q g) (sym (eqb-true (r .ssrc) x p) ∙ eqb-true (r .ssrc) y f))
 
-  other-step : (t : ReplayState) (q : Record) (l : List Record) (b : Bool) → isFor q x w ≡ b → recordFor (storeFor l x w t) y v ≡ recordFor l y v
-      → recordFor (pick b (withReplay q t ∷ l) (q ∷ storeFor l x w t)) y v ≡ recordFor (q ∷ l) y v
-  other-step t q l true h rec = rw (other q h)
-  other-step t q l false h rec = rw rec
-
   pub found-other : (t : ReplayState) (l : List Record) → recordFor (storeFor l x w t) y v ≡ recordFor l y v
-  found-other t [] = refl
-  found-other t (q ∷ l) = other-step t q l (isFor q x w) refl (found-other t l)
+  found-other t l = unfound (λ r. isFor r y v) (λ r. isFor r x w) (λ r. withReplay r t) (λ r e. (other r e, other r e)) l
 
   both-step : (t s : ReplayState) (q : Record) (l : List Record) (b c : Bool) → isFor q x w ≡ b → isFor q y v ≡ c
       → storeFor (storeFor l x w t) y v s ≡ storeFor (storeFor l y v s) x w t
@@ -142,14 +149,8 @@ module _ (x : ℕ) (w : Way) (rollover : ℕ) where
   new-found [] f e = clash true refl f
   new-found (q ∷ l) f e = new-step q l (isFree (q .kind)) refl (new-found l) f e
 
-old-step : (q n : Record) (l : List Record) (x : ℕ) (w : Way) (b : Bool) → isFree (q .kind) ≡ b → isFor n x w ≡ false
-    → recordFor (placed l n) x w ≡ recordFor l x w → recordFor (pick b (n ∷ l) (q ∷ placed l n)) x w ≡ recordFor (q ∷ l) x w
-old-step q n l x w true h m rec = rw (m, free-for q x w h)
-old-step q n l x w false h m rec = rw rec
-
 old-found : (l : List Record) (n : Record) (x : ℕ) (w : Way) → isFor n x w ≡ false → recordFor (placed l n) x w ≡ recordFor l x w
-old-found [] n x w m = refl
-old-found (q ∷ l) n x w m = old-step q n l x w (isFree (q .kind)) refl m (old-found l n x w m)
+old-found l n x w m = unfound (λ r. isFor r x w) (λ r. isFree (r .kind)) (λ r. n) (λ r e. (free-for r x w e, m)) l
 
 placed-step : (x : ℕ) (q n : Record) (l : List Record) (b : Bool) → isFree (q .kind) ≡ b → (hasSsrc (placed l n) x ≡ false → hasSsrc l x ≡ false)
     → hasSsrc (pick b (n ∷ l) (q ∷ placed l n)) x ≡ false → hasSsrc (q ∷ l) x ≡ false
