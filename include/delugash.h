@@ -11,18 +11,18 @@
  * What a call can rely on, and what it need not: any length, number, packet or session memory may be passed, also memory that was never made or was
  * overwritten: it then counts as a session without streams, or as whatever session it happens to hold, and no call reads or writes outside what it
  * was lent. A refusal changes nothing (a refused delugash_make leaves a session that takes no stream). The caller's duty is only this:
- *   - a pointer is not NULL, also where its length is 0, and as much memory as its length says belongs to it;
+ *   - as much memory as its length says belongs to a pointer; where the length is 0, the pointer may be anything, NULL too;
  *   - memory that a call may write (session, buf) overlaps no other memory of the same call;
  *   - no two threads are in calls on the same session at the same time. Calls on different sessions share nothing.
  *
  *     uint64_t session[DELUGASH_WORDS];
- *     if (delugash_make(session, DELUGASH_WORDS, key, 16, salt, 14, DELUGASH_CRYPTEX, key, 0) != DELUGASH_OK) ...
+ *     if (delugash_make(session, DELUGASH_WORDS, key, 16, salt, 14, DELUGASH_CRYPTEX, NULL, 0) != DELUGASH_OK) ...
  *     if (delugash_add(session, DELUGASH_WORDS, 0xcafebabe, DELUGASH_SENDING, 0) != DELUGASH_OK) ...
  *     delugash_answer a = delugash_protect(session, DELUGASH_WORDS, buf, sizeof buf, n);
  *     if (a.number == DELUGASH_OK)
  *         send(socket, buf, a.length, 0);
  *
- * (An empty list of ids still has an address, here that of the key.) examples/c/a_1_1.c is a whole program.
+ * examples/c/a_1_1.c is a whole program.
  */
 #ifndef DELUGASH_H
 #define DELUGASH_H
@@ -96,7 +96,7 @@ typedef struct {
 size_t delugash_size(void);
 
 /* Makes a session in words[0 .. word_count) from a master key of 16 bytes, a master salt of 14, a policy, and the ids (1 to 255; a 0 is ignored) of
- * the elements that DELUGASH_MASK encrypts. Gives DELUGASH_OK, _MEMORY, _KEYS or _POLICY. */
+ * the elements that DELUGASH_MASK encrypts: `ids` may be NULL where id_count is 0. Gives DELUGASH_OK, _MEMORY, _KEYS or _POLICY. */
 uint32_t delugash_make(uint64_t *words, size_t word_count, const uint8_t *key, size_t key_length, const uint8_t *salt, size_t salt_length,
     uint64_t policy, const uint8_t *ids, size_t id_count);
 

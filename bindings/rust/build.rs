@@ -8,13 +8,15 @@ fn main() {
         Some(folder) => PathBuf::from(folder),
         None => PathBuf::from(env!("CARGO_MANIFEST_DIR")).join("../../target/staticlib"),
     };
-    if !folder.join("libdelugash.a").exists() {
+    let library = folder.join("libdelugash.a");
+    if !library.exists() {
         println!(
             "cargo:warning=no libdelugash.a in {}: run `rt staticlib delugash`, or set DELUGASH_LIB_DIR",
             folder.display()
         );
     }
     println!("cargo:rerun-if-env-changed=DELUGASH_LIB_DIR");
+    println!("cargo:rerun-if-changed={}", library.display());
     println!("cargo:rustc-link-search=native={}", folder.display());
     println!("cargo:rustc-link-lib=static=delugash");
 }

@@ -43,7 +43,7 @@ static uint64_t *memory(void)
 static uint64_t *session(uint64_t policy, uint32_t way)
 {
     uint64_t *s = memory();
-    CHECK(delugash_make(s, delugash_size(), key, sizeof key, salt, sizeof salt, policy, key, 0) == DELUGASH_OK);
+    CHECK(delugash_make(s, delugash_size(), key, sizeof key, salt, sizeof salt, policy, NULL, 0) == DELUGASH_OK);
     CHECK(delugash_add(s, delugash_size(), 0xcafebabe, way, 0) == DELUGASH_OK);
     return s;
 }
@@ -104,14 +104,14 @@ static void refusals_leave_everything(void)
 
 static void wrong_memory(void)
 {
-    uint64_t *s = session(0, DELUGASH_SENDING), few[1] = {0};
+    uint64_t *s = session(0, DELUGASH_SENDING), few[1] = {0x5555};
     uint8_t buf[46];
     memcpy(buf, plain, sizeof plain);
     CHECK(delugash_protect(s, delugash_size() - 1, buf, sizeof buf, 36).number == DELUGASH_MEMORY);
     CHECK(delugash_unprotect(few, 1, buf, sizeof buf, 46).number == DELUGASH_MEMORY);
     CHECK(delugash_add(few, 0, 1, DELUGASH_SENDING, 0) == DELUGASH_MEMORY);
     CHECK(delugash_make(few, 1, key, sizeof key, salt, sizeof salt, 0, key, 0) == DELUGASH_MEMORY);
-    CHECK(few[0] == 0 && memcmp(buf, plain, sizeof plain) == 0);
+    CHECK(few[0] == 0x5555 && memcmp(buf, plain, sizeof plain) == 0);
     free(s);
 }
 
@@ -128,6 +128,34 @@ static void making(void)
         CHECK(delugash_add(s, delugash_size(), i, i % 2, i) == DELUGASH_OK);
     CHECK(delugash_add(s, delugash_size(), 32, DELUGASH_SENDING, 0) == DELUGASH_FULL);
     free(s);
+}
+
+/* A pointer whose length is 0 may be anything: nothing is read or written through it. */
+static void no_memory(void)
+{
+    uint64_t *s = session(0, DELUGASH_SENDING), *before = memory();
+    void *const pointers[2] = {NULL, (void *)(uintptr_t)1};
+    memcpy(before, s, delugash_size() * sizeof *s);
+    for (int i = 0; i < 2; i++) {
+        void *p = pointers[i];
+        CHECK(delugash_protect(s, delugash_size(), p, 0, 0).number == DELUGASH_SHORT);
+        CHECK(delugash_protect(s, delugash_size(), p, 0, 1).number == DELUGASH_LENGTH);
+        CHECK(delugash_unprotect(s, delugash_size(), p, 0, 0).number == DELUGASH_SHORT);
+        CHECK(delugash_protect(p, 0, p, 0, 0).number == DELUGASH_MEMORY);
+        CHECK(delugash_unprotect(p, 0, p, 0, 0).number == DELUGASH_MEMORY);
+        CHECK(delugash_make(p, 0, p, 0, p, 0, 0, p, 0) == DELUGASH_MEMORY);
+        CHECK(delugash_add(p, 0, 1, DELUGASH_SENDING, 0) == DELUGASH_MEMORY);
+        CHECK(delugash_find(p, 0, 1).number == DELUGASH_SHORT);
+        CHECK(memcmp(s, before, delugash_size() * sizeof *s) == 0);
+    }
+    for (int i = 0; i < 2; i++) {
+        void *p = pointers[i];
+        CHECK(delugash_make(s, delugash_size(), key, sizeof key, salt, sizeof salt, DELUGASH_MASK, p, 0) == DELUGASH_OK);
+        CHECK(delugash_make(s, delugash_size(), p, 0, salt, sizeof salt, 0, p, 0) == DELUGASH_KEYS);
+        CHECK(delugash_make(s, delugash_size(), key, sizeof key, p, 0, 0, p, 0) == DELUGASH_KEYS);
+    }
+    free(s);
+    free(before);
 }
 
 static void finding(void)
@@ -152,40 +180,59 @@ static uint64_t next(void)
     return z ^ (z >> 31);
 }
 
-/* Memory with anything in it, half of it with the first word of a made session: calls answer a number of the list, and a refusal changes nothing. */
+/* Memory with anything in it; in every second round that of a made session, under any policy, with a fifth of its other words overwritten: there a
+ * stream is often found. */
+static void any_words(uint64_t *s, const uint64_t *made, int round)
+{
+    for (size_t i = 0; i < delugash_size(); i++)
+        s[i] = round % 2 == 0 || next() % 5 == 0 ? next() : made[i];
+    if (round % 2)
+        s[0] = made[0] + next() % 4;
+}
+
+/* A packet of any bytes, but of version 2, with at most one contributor, and of the session's stream. */
+static void any_packet(uint8_t *buf, size_t length)
+{
+    for (size_t i = 0; i < length; i++)
+        buf[i] = (uint8_t)next();
+    if (length > 0)
+        buf[0] = 0x80 | (buf[0] & 0x11);
+    if (length >= 12)
+        memcpy(buf + 8, "\xca\xfe\xba\xbe", 4);
+}
+
+/* Calls on any memory answer a number of the list, and a refusal changes nothing. */
 static void any_memory(void)
 {
     size_t words = delugash_size();
-    uint64_t *s = memory(), *before = memory(), *made = session(0, DELUGASH_SENDING);
+    uint64_t *s = memory(), *before = memory(), *made[2] = {session(0, DELUGASH_SENDING), session(0, DELUGASH_RECEIVING)};
+    unsigned results = 0, indices = 0, wrong_calls = 0, wrong_adds = 0;
     for (int round = 0; round < 20000; round++) {
-        size_t length = next() % 80;
-        uint8_t *buf = malloc(length + 1), *copy = malloc(length + 1);
-        if (buf == NULL || copy == NULL)
+        size_t length = 1 + next() % 80, n = next() % (length + 2);
+        uint8_t *buf = malloc(length), copy[80];
+        if (buf == NULL)
             exit(2);
-        for (size_t i = 0; i < words; i++)
-            s[i] = next();
-        if (round % 2)
-            s[0] = made[0] + next() % 4;
-        for (size_t i = 0; i < length; i++)
-            buf[i] = (uint8_t)next();
-        if (length > 0)
-            buf[0] = 0x80 | (buf[0] & 0x11);
+        int sends = round % 4 < 2;
+        any_words(s, made[!sends], round);
+        any_packet(buf, length);
         memcpy(copy, buf, length);
         memcpy(before, s, words * sizeof *s);
-        size_t n = next() % (length + 2);
-        delugash_answer a = round % 4 < 2 ? delugash_protect(s, words, buf, length, n) : delugash_unprotect(s, words, buf, length, n);
-        if (a.number > 14 || (a.number != 0 && (a.length != 0 || memcmp(s, before, words * sizeof *s) != 0 || memcmp(buf, copy, length) != 0)))
-            CHECK(!"a call on any memory");
+        delugash_answer a = sends ? delugash_protect(s, words, buf, length, n) : delugash_unprotect(s, words, buf, length, n);
+        int changed = a.length != 0 || memcmp(s, before, words * sizeof *s) != 0 || memcmp(buf, copy, length) != 0;
+        results += a.number == DELUGASH_OK;
+        indices += a.number >= DELUGASH_ORDER;
+        wrong_calls += a.number > DELUGASH_TAG || (a.number != DELUGASH_OK && changed);
         uint32_t added = delugash_add(s, words, (uint32_t)next(), (uint32_t)(next() % 2), (uint32_t)next());
-        if (added != 0 && added != DELUGASH_KEYS && added != DELUGASH_TWICE && added != DELUGASH_FULL)
-            CHECK(!"an add on any memory");
+        wrong_adds += added != DELUGASH_OK && added != DELUGASH_KEYS && added != DELUGASH_TWICE && added != DELUGASH_FULL;
         free(buf);
-        free(copy);
     }
-    CHECK(1);
+    CHECK(wrong_calls == 0 && wrong_adds == 0);
+    /* and the rounds were worth it: packets were taken, and others refused by their stream's record */
+    CHECK(results > 100 && indices > 100);
     free(s);
     free(before);
-    free(made);
+    free(made[0]);
+    free(made[1]);
 }
 
 int main(void)
@@ -196,6 +243,7 @@ int main(void)
     refusals_leave_everything();
     wrong_memory();
     making();
+    no_memory();
     finding();
     any_memory();
     printf("C interface: %u facts hold, %u do not\n", passed, failed);

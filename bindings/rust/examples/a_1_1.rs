@@ -33,5 +33,6 @@ fn main() -> Result<(), Error> {
     show("protected", &buf[..sent], &packet);
     let length = receiver.unprotect(&mut buf, sent)?;
     show("given back", &buf[..length], &packet);
+    assert_eq!(buf[..length], packet, "what was sent comes back");
     Ok(())
 }

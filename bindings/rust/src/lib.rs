@@ -28,6 +28,8 @@
 mod border;
 mod error;
 
+use std::fmt;
+
 pub use error::Error;
 
 /// The most that protecting adds to a packet: a tag of ten bytes, and four where Cryptex adds an empty extension block.
@@ -57,6 +59,13 @@ pub enum Way {
 #[derive(Clone)]
 pub struct Session {
     words: Vec<u64>,
+}
+
+/// Shows that it is a session, and nothing of what is in it: there are keys.
+impl fmt::Debug for Session {
+    fn fmt(&self, f: &mut fmt::Formatter<'_>) -> fmt::Result {
+        f.debug_struct("Session").finish_non_exhaustive()
+    }
 }
 
 impl Session {

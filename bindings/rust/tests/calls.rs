@@ -1,4 +1,4 @@
-//! Published packets both ways, each refusal that a safe call can meet, and what a refusal leaves.
+//! Published packets both ways, each refusal that a safe call can meet, what a refusal leaves, and what is shown of a session.
 
 use delugash::{find, Error, Policy, Session, Way};
 
@@ -165,4 +165,64 @@ fn clones_and_threads() {
         copy.protect(&mut buf, 14).map(|n| buf[..n].to_vec())
     });
     assert_eq!(second.join().expect("no panic").expect("protected"), first[..sent]);
+}
+
+#[test]
+fn refusals_of_headers() {
+    let sent = |policy: Policy, packet: &str| {
+        let mut buf = hex(packet);
+        let n = buf.len();
+        buf.resize(n + delugash::ROOM, 0);
+        session(policy, Way::Sending).protect(&mut buf, n)
+    };
+    // a block of two words where one is left, a tag that Cryptex cannot carry, and an element of two bytes where one is left
+    assert_eq!(
+        sent(Policy::Plain, "900f1234decafbadcafebabebede000200000000"),
+        Err(Error::Header)
+    );
+    assert_eq!(
+        sent(Policy::Cryptex, "900f1234decafbadcafebabe1001000100000000"),
+        Err(Error::Profile)
+    );
+    assert_eq!(
+        sent(Policy::Mask, "900f1234decafbadcafebabebede000100001100"),
+        Err(Error::Element)
+    );
+    assert_eq!(sent(Policy::Mask, "900f1234decafbadcafebabebede000100110000"), Ok(30));
+}
+
+#[test]
+fn refusals_of_indices() {
+    let packet = |sequence: u16| {
+        let mut buf = hex("800f0000decafbadcafebabeabab00000000000000000000");
+        buf[2..4].copy_from_slice(&sequence.to_be_bytes());
+        buf
+    };
+    let mut sender = Session::new(&KEY, &SALT, Policy::Plain, &[]).expect("a session");
+    let mut receiver = sender.clone();
+    sender.add(SSRC, Way::Sending, u32::MAX).expect("a stream");
+    receiver.add(SSRC, Way::Receiving, u32::MAX).expect("a stream");
+    let (mut first, mut last) = (packet(65471), packet(65535));
+    assert_eq!(sender.protect(&mut first, 14), Ok(24));
+    assert_eq!(sender.protect(&mut last, 14), Ok(24));
+    assert_eq!(sender.protect(&mut packet(0), 14), Err(Error::Worn));
+    assert_eq!(receiver.unprotect(&mut last, 24), Ok(14));
+    assert_eq!(receiver.unprotect(&mut first, 24), Err(Error::Old));
+}
+
+#[test]
+fn a_session_shows_no_key() {
+    let made = session(Policy::Mask, Way::Sending);
+    for shown in [format!("{made:?}"), format!("{made:#?}")] {
+        assert!(shown.starts_with("Session"));
+        let words = KEY
+            .chunks(8)
+            .chain(SALT.chunks(8))
+            .map(|part| part.iter().fold(0u64, |n, b| n << 8 | u64::from(*b)));
+        let bytes = KEY.iter().chain(&SALT).map(|b| u64::from(*b));
+        for secret in words.chain(bytes) {
+            assert!(!shown.contains(&secret.to_string()), "{secret} in {shown}");
+            assert!(!shown.contains(&format!("{secret:02x}")), "{secret:02x} in {shown}");
+        }
+    }
 }
