@@ -9,7 +9,7 @@ use borrow.Author.Tests.{eqb-true, eqb-false}
 use lib.Bits.{bitOr, or-shr, or-step}
 use lib.Dec.{eqb, lit<}
 use lib.Pow.{pow-pos, pow-lt, pow-add, shl-exact, shl-shr, shr-shr}
-use Rattle.bits.specs.Bits.{bit, packed}
+use Rattle.bits.specs.Bits.{isSet, packed}
 use Rattle.bits.specs.Pick.{pick}
 
 -- `1 << k` at 64 bits
@@ -36,20 +36,20 @@ power-same : (k : ℕ) → 2 ^ k / 2 ^ k % 2 ≡ 1
 power-same k = rw (div-self (pow-pos k))
 
 -- bit k of `x | 2 ^ k` is set, and any other is as in x
-pub or-same : (x k : ℕ) → bit (bitOr x (2 ^ k)) k ≡ true
+pub or-same : (x k : ℕ) → isSet (bitOr x (2 ^ k)) k ≡ true
 or-same x k =
     let e : bitOr x (2 ^ k) / 2 ^ k % 2 ≡ 1 = omega (arith, or-at x (2 ^ k) k, power-same k) in
     rw e
 
-pub or-other : (x j k : ℕ) → (j ≡ k → ⊥) → bit (bitOr x (2 ^ k)) j ≡ bit x j
+pub or-other : (x j k : ℕ) → (j ≡ k → ⊥) → isSet (bitOr x (2 ^ k)) j ≡ isSet x j
 or-other x j k h =
     let e : bitOr x (2 ^ k) / 2 ^ j % 2 ≡ x / 2 ^ j % 2 = omega (arith, or-at x (2 ^ k) j, power-other j k h) in
     rw e
 
-pub zero-bit : (k : ℕ) → bit 0 k ≡ false
+pub zero-bit : (k : ℕ) → isSet 0 k ≡ false
 zero-bit k = rw (zero-div (2 ^ k))
 
-pub no-bit : (k : ℕ) → bit 0 k ≡ true → ⊥
+pub no-bit : (k : ℕ) → isSet 0 k ≡ true → ⊥
 no-bit k h = true≢false (sym h ∙ zero-bit k)
 
 -- ---- flags packed into a number
@@ -60,7 +60,7 @@ packed-ext zero f g h = refl
 packed-ext (suc n) f g h =
     ap₂ (λ (b : Bool) (r : ℕ). pick b 1 0 + 2 * r) (h 0 (omega arith)) (packed-ext n (λ k. f (suc k)) (λ k. g (suc k)) (λ k b. h (suc k) (omega arith)))
 
-low-bit : (b : Bool) (p : ℕ) → bit (pick b 1 0 + 2 * p) 0 ≡ b
+low-bit : (b : Bool) (p : ℕ) → isSet (pick b 1 0 + 2 * p) 0 ≡ b
 low-bit true p = let e : (1 + 2 * p) / 2 ^ 0 % 2 ≡ 1 = omega arith in rw e
 low-bit false p = let e : (0 + 2 * p) / 2 ^ 0 % 2 ≡ 0 = omega arith in rw e
 
@@ -68,29 +68,29 @@ half : (b : Bool) (p : ℕ) → (pick b 1 0 + 2 * p) / 2 ≡ p
 half true p = omega arith
 half false p = omega arith
 
-next-bit : (x k : ℕ) → bit x (suc k) ≡ bit (x / 2) k
+next-bit : (x k : ℕ) → isSet x (suc k) ≡ isSet (x / 2) k
 next-bit x k =
     let s : suc k ≡ 1 + k = omega arith in
     ap (λ (y : ℕ). eqb (y % 2) 1) (ap (λ (j : ℕ). x / 2 ^ j) s ∙ sym (shr-shr x 1 k))
 
 -- flag k is bit k
-pub packed-bit : (n : ℕ) (f : ℕ → Bool) (k : ℕ) → k < n → bit (packed n f) k ≡ f k
+pub packed-bit : (n : ℕ) (f : ℕ → Bool) (k : ℕ) → k < n → isSet (packed n f) k ≡ f k
 unfolding packed
 packed-bit zero f k h = absurd (omega arith)
 packed-bit (suc n) f zero h = low-bit (f 0) (packed n (λ k. f (suc k)))
 packed-bit (suc n) f (suc k) h =
     let p = packed n (λ m. f (suc m)) in
-    next-bit (pick (f 0) 1 0 + 2 * p) k ∙ ap (λ (y : ℕ). bit y k) (half (f 0) p) ∙ packed-bit n (λ m. f (suc m)) k (omega arith)
+    next-bit (pick (f 0) 1 0 + 2 * p) k ∙ ap (λ (y : ℕ). isSet y k) (half (f 0) p) ∙ packed-bit n (λ m. f (suc m)) k (omega arith)
 
-first-bit : (x : ℕ) (b : Bool) → bit x 0 ≡ b → pick b 1 0 ≡ x % 2
+first-bit : (x : ℕ) (b : Bool) → isSet x 0 ≡ b → pick b 1 0 ≡ x % 2
 first-bit x true e = omega (arith, eqb-true (x / 2 ^ 0 % 2) 1 e)
 first-bit x false e = omega (arith, eqb-false (x / 2 ^ 0 % 2) 1 e)
 
 -- a number of n bits is its bits packed
-pub bits-packed : (n x : ℕ) → x < 2 ^ n → packed n (bit x) ≡ x
+pub bits-packed : (n x : ℕ) → x < 2 ^ n → packed n (isSet x) ≡ x
 unfolding packed
 bits-packed zero x h = omega arith
 bits-packed (suc n) x h =
     let p : 2 ^ suc n ≡ 2 * 2 ^ n = pow-succ' 2 n in
-    let r : packed n (λ k. bit x (suc k)) ≡ x / 2 = packed-ext n (λ k. bit x (suc k)) (bit (x / 2)) (λ k b. next-bit x k) ∙ bits-packed n (x / 2) (omega arith) in
-    omega (arith, first-bit x (bit x 0) refl)
+    let r : packed n (λ k. isSet x (suc k)) ≡ x / 2 = packed-ext n (λ k. isSet x (suc k)) (isSet (x / 2)) (λ k b. next-bit x k) ∙ bits-packed n (x / 2) (omega arith) in
+    omega (arith, first-bit x (isSet x 0) refl)

@@ -4,9 +4,9 @@ use Prim.Native.Nat.{ℕ, zero, suc, _+_, _*_, _/_, _%_, _^_}
 use lib.Dec.{eqb}
 use Rattle.bits.specs.Pick.{pick}
 
--- bit k of x
-abbrev pub bit : ℕ → ℕ → Bool
-bit x k = eqb (x / 2 ^ k % 2) 1
+-- bit k of x is set
+abbrev pub isSet : ℕ → ℕ → Bool
+isSet x k = eqb (x / 2 ^ k % 2) 1
 
 -- the number of n flags
 unfoldable pub packed : ℕ → (ℕ → Bool) → ℕ

@@ -1,4 +1,4 @@
-// Numbers of two, four and eight bytes in network byte order, read and written.
+// Numbers of two, four and eight bytes in network byte order, read; and of four and eight, written.
 ghost use mathlib.Core.Path.{_≡_};
 ghost use Rattle.bits.specs.BigEndian.{fromBytes, toBytes};
 
@@ -25,13 +25,6 @@ pub fn read64(b: [u8; 8]) -> u64
     let high = read32([b[0], b[1], b[2], b[3]]);
     let low = read32([b[4], b[5], b[6], b[7]]);
     (high as u64) * 4294967296 + (low as u64)
-}
-
-// The two bytes of a number.
-pub fn write16(x: u16) -> [u8; 2]
-    ensures { λ r. ⌜ r ≡ toBytes 2 x ⌝ }
-{
-    [(x / 256 % 256) as u8, (x % 256) as u8]
 }
 
 // The four bytes of a number.

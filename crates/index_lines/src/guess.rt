@@ -1,6 +1,5 @@
 // The line `guess`.
 use replay::answer::tell;
-use replay::guess::guess;
 use replay::receive::accept;
 use replay::receive::receive;
 use text::reading::number_at;
@@ -9,13 +8,21 @@ use text_output::output::put;
 use text_output::output::put_decimal;
 use text_output::output::put_two;
 
-// How far a guess is from the highest index, with its sign.
-fn put_distance(out: &mut [u8], at: usize, up: u32, down: u32) -> usize {
-    if up < down {
-        let place = put(out, at, b'-');
-        return put_decimal(out, place, (down - up) as u64);
+// A number without its sign. As 64 bits, since one number of 32 has no negation of 32.
+fn magnitude(x: i32) -> u64 {
+    let wide = x as i64;
+    if wide < 0 {
+        return (0 - wide) as u64;
     }
-    put_decimal(out, at, (up - down) as u64)
+    wide as u64
+}
+
+fn put_signed(out: &mut [u8], at: usize, x: i32) -> usize {
+    if x < 0 {
+        let place = put(out, at, b'-');
+        return put_decimal(out, place, magnitude(x));
+    }
+    put_decimal(out, at, magnitude(x))
 }
 
 // NO INDEX DISTANCE, for a window of 64.
@@ -26,8 +33,7 @@ fn put_guess(out: &mut [u8], highest: u64, sequence: u16) -> usize {
     let judged = arrival.judged;
     let told = tell(judged);
     let at = put_two(out, told.number as u64, told.index);
-    let offset = guess(highest, sequence);
-    put_distance(out, at, offset.up, offset.down)
+    put_signed(out, at, arrival.distance)
 }
 
 // guess HIGHEST SEQ

@@ -7,26 +7,26 @@ fn least(a: usize, b: usize) -> usize
     if a < b { a } else { b }
 }
 
+// As many bytes as both have.
+fn copy_bytes(to: &mut [u8], from: &[u8]) {
+    let n = least(to.len(), from.len());
+    let mut i: usize = 0;
+    while i < n {
+        to[i] = from[i];
+        i += 1;
+    }
+}
+
 // The first sixteen; zeros where there are fewer.
 pub fn array16(b: &[u8]) -> [u8; 16] {
     let mut a = [0u8; 16];
-    let n = least(b.len(), 16);
-    let mut i: usize = 0;
-    while i < n {
-        a[i] = b[i];
-        i += 1;
-    }
+    copy_bytes(&mut a, b);
     a
 }
 
 // The first fourteen; zeros where there are fewer.
 pub fn array14(b: &[u8]) -> [u8; 14] {
     let mut a = [0u8; 14];
-    let n = least(b.len(), 14);
-    let mut i: usize = 0;
-    while i < n {
-        a[i] = b[i];
-        i += 1;
-    }
+    copy_bytes(&mut a, b);
     a
 }

@@ -11,7 +11,7 @@ use lib.Dec.{eqb}
 use lib.ListN.{length, getD, set, take, replicate, length-set, getD-replicate}
 use lib.Pow.{pow-lt}
 use lib.Seq.{take-suc, getD-set-same, getD-set-other}
-use Rattle.bits.specs.Bits.{bit, packed}
+use Rattle.bits.specs.Bits.{isSet, packed}
 use Rattle.bits.specs.Pick.{pick}
 use Rattle.bits.proofs.Bits.{or-same, or-other, zero-bit, packed-ext, bits-packed}
 use Rattle.bits.proofs.Lists.{tabulated, tabulate-ext}
@@ -44,7 +44,7 @@ none-flagged =
       small = λ j h. rw (getD-replicate {A = ℕ} 4 j 0 0 h) (omega arith);
       flag =
           λ id h.
-          ap (λ (w : ℕ). bit w (id % 64)) (getD-replicate {A = ℕ} 4 (id / 64) 0 0 (omega arith)) ∙ zero-bit (id % 64) ∙ sym (and-no (not (eqb id 0)));
+          ap (λ (w : ℕ). isSet w (id % 64)) (getD-replicate {A = ℕ} 4 (id / 64) 0 0 (omega arith)) ∙ zero-bit (id % 64) ∙ sym (and-no (not (eqb id 0)));
     }
 
 among-more : (l : List ℕ) (x k : ℕ) → among (l ++ (x ∷ [])) k ≡ (among l k || eqb k x)
@@ -64,10 +64,10 @@ with-small w x h = go (eqb x 0)
     go true = h
     go false = or-lt 64 w (2 ^ (x % 64)) h (pow-lt {j = 64} (omega arith))
 
-with-other : (w x k : ℕ) → (k ≡ x % 64 → ⊥) → bit (withId w x) k ≡ bit w k
+with-other : (w x k : ℕ) → (k ≡ x % 64 → ⊥) → isSet (withId w x) k ≡ isSet w k
 with-other w x k h = go (eqb x 0)
   where
-    go : (b : Bool) → bit (pick b w (bitOr w (2 ^ (x % 64)))) k ≡ bit w k
+    go : (b : Bool) → isSet (pick b w (bitOr w (2 ^ (x % 64)))) k ≡ isSet w k
     go true = refl
     go false = or-other w k (x % 64) h
 
@@ -94,16 +94,16 @@ module _ (l s : List ℕ) (f : Flagged l s) (x : ℕ) (byte : x < 256) where
       go : (t : Bool) → eqb (id / 64) (x / 64) ≡ t → listedIn more id ≡ listedIn s id
       go true e =
           let q = eqb-true (id / 64) (x / 64) e in
-          ap (λ (w : ℕ). bit w (id % 64)) (here (id / 64) q) ∙ with-other (getD s (x / 64) 0) x (id % 64) (λ k. h (omega arith))
-          ∙ ap (λ (j : ℕ). bit (getD s j 0) (id % 64)) (sym q)
-      go false e = ap (λ (w : ℕ). bit w (id % 64)) (elsewhere (id / 64) (eqb-false (id / 64) (x / 64) e))
+          ap (λ (w : ℕ). isSet w (id % 64)) (here (id / 64) q) ∙ with-other (getD s (x / 64) 0) x (id % 64) (λ k. h (omega arith))
+          ∙ ap (λ (j : ℕ). isSet (getD s j 0) (id % 64)) (sym q)
+      go false e = ap (λ (w : ℕ). isSet w (id % 64)) (elsewhere (id / 64) (eqb-false (id / 64) (x / 64) e))
 
   same-id : (b : Bool) → eqb x 0 ≡ b → listedIn more x ≡ (not b && (among l x || true))
   same-id true e =
-      ap (λ (w : ℕ). bit w (x % 64)) (here (x / 64) refl ∙ ap (λ (b : Bool). pick b (getD s (x / 64) 0) (bitOr (getD s (x / 64) 0) (2 ^ (x % 64)))) e)
+      ap (λ (w : ℕ). isSet w (x % 64)) (here (x / 64) refl ∙ ap (λ (b : Bool). pick b (getD s (x / 64) 0) (bitOr (getD s (x / 64) 0) (2 ^ (x % 64)))) e)
       ∙ f .flag x byte ∙ ap (λ (b : Bool). not b && among l x) e
   same-id false e =
-      ap (λ (w : ℕ). bit w (x % 64)) (here (x / 64) refl ∙ ap (λ (b : Bool). pick b (getD s (x / 64) 0) (bitOr (getD s (x / 64) 0) (2 ^ (x % 64)))) e)
+      ap (λ (w : ℕ). isSet w (x % 64)) (here (x / 64) refl ∙ ap (λ (b : Bool). pick b (getD s (x / 64) 0) (bitOr (getD s (x / 64) 0) (2 ^ (x % 64)))) e)
       ∙ or-same (getD s (x / 64) 0) (x % 64) ∙ sym (or-yes (among l x))
 
   more-flag : (id : ℕ) → id < 256 → (b : Bool) → eqb id x ≡ b → listedIn more id ≡ (not (eqb id 0) && (among l id || b))
@@ -131,9 +131,9 @@ unfolding idsOf
 all-flagged ids s f =
     sym (tabulated 0 4 s (f .size))
     ∙ tabulate-ext 4 (λ j. getD s j 0) (λ j. packed 64 (λ k. counts ids (64 * j + k)))
-    (λ j h. sym (bits-packed 64 (getD s j 0) (f .small j h)) ∙ packed-ext 64 (bit (getD s j 0)) (λ k. counts ids (64 * j + k)) (λ k b. at j k h b))
+    (λ j h. sym (bits-packed 64 (getD s j 0) (f .small j h)) ∙ packed-ext 64 (isSet (getD s j 0)) (λ k. counts ids (64 * j + k)) (λ k b. at j k h b))
   where
-    at : (j k : ℕ) → j < 4 → k < 64 → bit (getD s j 0) k ≡ counts ids (64 * j + k)
+    at : (j k : ℕ) → j < 4 → k < 64 → isSet (getD s j 0) k ≡ counts ids (64 * j + k)
     at j k h b =
         let q : (64 * j + k) / 64 ≡ j = omega arith in
         let r : (64 * j + k) % 64 ≡ k = omega arith in

@@ -60,12 +60,12 @@ pub fn free_place(session: &[u64]) -> Place
     ensures { λ r. ⌜ r ≡ freeFrom 0 (decode (now (session .entry)) .records) ⌝ }
     ensures { λ r. ⌜ Inside r ⌝ }
 {
-    let mut i: usize = 0;
-    while i < 32 {
-        if is_free(session[FRONT + EACH * i]) {
-            return Place::At(i);
+    let mut place: usize = 0;
+    while place < 32 {
+        if is_free(session[FRONT + EACH * place]) {
+            return Place::At(place);
         }
-        i += 1;
+        place += 1;
     }
     Place::Nowhere
 }

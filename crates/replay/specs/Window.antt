@@ -5,7 +5,7 @@ use Prim.Native.Nat.{ℕ, _/_, _%_, _^_}
 use lib.Bits.{bitOr}
 use lib.Dec.{eqb}
 use lib.ListN.{getD, set}
-use Rattle.bits.specs.Bits.{bit}
+use Rattle.bits.specs.Bits.{isSet}
 use Rattle.bits.specs.Pick.{pick}
 
 -- Bit k of bits[n % b] says that index 64 * n + k was accepted, where stamps[n % b] is n.
@@ -26,7 +26,7 @@ blockOf b w n = pick (eqb (getD (w .stamps) (n % b) 0) n) (getD (w .bits) (n % b
 
 -- index i is marked as accepted: no longer so once another block stands in its place
 unfoldable pub seenIn : ℕ → Window → ℕ → Bool
-seenIn b w i = bit (blockOf b w (i / 64)) (i % 64)
+seenIn b w i = isSet (blockOf b w (i / 64)) (i % 64)
 
 -- the window with index i accepted
 unfoldable pub markOf : ℕ → Window → ℕ → Window

@@ -19,7 +19,7 @@ pub(crate) fn difference(a: u32, b: u32) -> i32
 }
 
 // SEQ up and s down; 65,536 more down where the guess is R - 1, more up where it is R + 1.
-pub fn guess(highest: u64, sequence: u16) -> Offset
+pub(crate) fn guess(highest: u64, sequence: u16) -> Offset
     ensures { λ r. ⌜ r ≡ offsetOf highest sequence ⌝ }
 {
     let s = (highest % 65536) as u32;

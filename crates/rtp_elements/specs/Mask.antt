@@ -4,7 +4,7 @@ use mathlib.Core.List.{List, [], _∷_}
 use Prim.Native.Nat.{ℕ, _/_, _%_}
 use lib.Dec.{eqb}
 use lib.ListN.{getD}
-use Rattle.bits.specs.Bits.{bit}
+use Rattle.bits.specs.Bits.{isSet}
 use Rattle.bits.specs.Pick.{pick}
 use Rattle.bits.specs.Xor.{xorPad}
 use Rattle.rtp_elements.specs.Elements.{NextByte, Between, Length, Data, Ended, twoByte, startOf, stepOf}
@@ -16,7 +16,7 @@ among (x ∷ l) id = eqb id x || among l id
 
 -- a set of ids in four words of 64 bits: id is bit id % 64 of word id / 64
 abbrev pub listedIn : List ℕ → ℕ → Bool
-listedIn words id = bit (getD words (id / 64) 0) (id % 64)
+listedIn words id = isSet (getD words (id / 64) 0) (id % 64)
 
 -- all ones on data of an element whose id is listed; zero on element headers, padding, data of other elements and bytes that are not read
 abbrev pub maskByte : (ℕ → Bool) → NextByte → ℕ

@@ -14,10 +14,10 @@ use Rattle.records.proofs.places.free_place.Statement.{statement}
 use Rattle.records.proofs.places.free_place.Tie as tie
 
 abbrev Inv-loop : tie.InvT-loop
-Inv-loop session i₀ i = (i ≤ 32) × (freeFrom 0 (recordsIn session) ≡ freeFrom i (drop i (recordsIn session)))
+Inv-loop session place₀ place = (place ≤ 32) × (freeFrom 0 (recordsIn session) ≡ freeFrom place (drop place (recordsIn session)))
 
 abbrev μ-loop : tie.MeasureT-loop
-μ-loop session i₀ i = 32 - i
+μ-loop session place₀ place = 32 - place
 
 loop-holds : tie.Need-loop-holds Inv-loop μ-loop
 loop-holds c = (omega arith, refl)
@@ -41,13 +41,13 @@ returns : tie.Need-returns Inv-loop μ-loop
 returns c =
     let k = c .before .before .before .before in
     let w = k .before .before .args .session .now in
-    let h : k .loop .i < 32 = c .before .before .before .loop-test .taken in
+    let h : k .loop .place < 32 = c .before .before .before .loop-test .taken in
     let l : length (recordsIn w) ≡ 32 = records-length w in
-    let t = ap isFree (kind-at w (k .loop .i) h) ∙ sym (c .before .is-free .ensures) ∙ c .if1 .taken in
-    (rw (made w (k .before .before .pre .1)) (sym (k .loop .inv .1 ∙ first-hit free (recordsIn w) (k .loop .i) (omega arith) t)), h)
+    let t = ap isFree (kind-at w (k .loop .place) h) ∙ sym (c .before .is-free .ensures) ∙ c .if1 .taken in
+    (rw (made w (k .before .before .pre .1)) (sym (k .loop .inv .1 ∙ first-hit free (recordsIn w) (k .loop .place) (omega arith) t)), h)
 
-add-i : tie.Need-add-i Inv-loop μ-loop
-add-i c = search needs
+add-place : tie.Need-add-place Inv-loop μ-loop
+add-place c = search needs
 
 loop-less : tie.Need-loop-less Inv-loop μ-loop
 loop-less c = search needs
@@ -56,17 +56,17 @@ loop-again : tie.Need-loop-again Inv-loop μ-loop
 loop-again c =
     let k = c .before .before .before .before in
     let w = k .before .before .args .session .now in
-    let h : k .loop .i < 32 = c .before .before .before .loop-test .taken in
+    let h : k .loop .place < 32 = c .before .before .before .loop-test .taken in
     let l : length (recordsIn w) ≡ 32 = records-length w in
-    let t = ap isFree (kind-at w (k .loop .i) h) ∙ sym (c .before .is-free .ensures) ∙ c .if1 .left in
-    (omega arith, k .loop .inv .1 ∙ first-miss free (recordsIn w) (k .loop .i) (omega arith) t)
+    let t = ap isFree (kind-at w (k .loop .place) h) ∙ sym (c .before .is-free .ensures) ∙ c .if1 .left in
+    (omega arith, k .loop .inv .1 ∙ first-miss free (recordsIn w) (k .loop .place) (omega arith) t)
 
 returns-2 : tie.Need-returns-2 Inv-loop μ-loop
 returns-2 c =
     let k = c .before in
     let w = k .before .before .args .session .now in
     let l : length (recordsIn w) ≡ 32 = records-length w in
-    (rw (made w (k .before .before .pre .1)) (sym (k .loop .inv .1 ∙ first-over free (recordsIn w) (k .loop .i) (omega (arith, c .loop-test .left)))), tt)
+    (rw (made w (k .before .before .pre .1)) (sym (k .loop .inv .1 ∙ first-over free (recordsIn w) (k .loop .place) (omega (arith, c .loop-test .left)))), tt)
 
 pub free-place-spec : {M : Type 1} → statement M
 free-place-spec =
@@ -81,7 +81,7 @@ free-place-spec =
     shared-slice-read-is-free
     is-free-requires
     returns
-    add-i
+    add-place
     loop-less
     loop-again
     returns-2)

@@ -1,16 +1,16 @@
--- `lines::arrays::array16` is safe and ends.
+-- `lines::arrays::copy_bytes` is safe and ends.
 use mathlib.Core.Path.{_≡_}
 use Prim.Native.Nat.{_≤_, _-_}
 use lib.ListN.{length}
 use borrow.Author.Needs.{needs}
-use Rattle.lines.proofs.arrays.array16.Statement.{statement}
-use Rattle.lines.proofs.arrays.array16.Tie as tie
+use Rattle.lines.proofs.arrays.copy_bytes.Statement.{statement}
+use Rattle.lines.proofs.arrays.copy_bytes.Tie as tie
 
 abbrev Inv-loop : tie.InvT-loop
-Inv-loop b a₀ n i₀ a i = (i ≤ n) × (length a ≡ 16)
+Inv-loop to₀ from n i₀ to i = (i ≤ n) × (length to ≡ length to₀)
 
 abbrev μ-loop : tie.MeasureT-loop
-μ-loop b a₀ n i₀ a i = n - i
+μ-loop to₀ from n i₀ to i = n - i
 
 least-requires : tie.Need-least-requires Inv-loop μ-loop
 least-requires c κs = search needs
@@ -18,11 +18,11 @@ least-requires c κs = search needs
 loop-holds : tie.Need-loop-holds Inv-loop μ-loop
 loop-holds c = search needs
 
-shared-slice-read-a : tie.Need-shared-slice-read-a Inv-loop μ-loop
-shared-slice-read-a c = search needs
+shared-slice-read-to : tie.Need-shared-slice-read-to Inv-loop μ-loop
+shared-slice-read-to c = search needs
 
-array-write-a : tie.Need-array-write-a Inv-loop μ-loop
-array-write-a c = search needs
+slice-write-to : tie.Need-slice-write-to Inv-loop μ-loop
+slice-write-to c = search needs
 
 add-i : tie.Need-add-i Inv-loop μ-loop
 add-i c = search needs
@@ -33,20 +33,24 @@ loop-less c = search needs
 loop-again : tie.Need-loop-again Inv-loop μ-loop
 loop-again c = search needs
 
+same-length : tie.Need-same-length Inv-loop μ-loop
+same-length c = search needs
+
 returns : tie.Need-returns Inv-loop μ-loop
 returns c = search needs
 
-pub array16-spec : {M : Type 1} → statement M
-array16-spec =
+pub copy-bytes-spec : {M : Type 1} → statement M
+copy-bytes-spec =
     tie.close
     (tie.spec
     Inv-loop
     μ-loop
     least-requires
     loop-holds
-    shared-slice-read-a
-    array-write-a
+    shared-slice-read-to
+    slice-write-to
     add-i
     loop-less
     loop-again
+    same-length
     returns)
