@@ -1,13 +1,12 @@
 -- What memory holds after a call: the session that the call's definition gives back.
 use mathlib.Core.Path.{_≡_, refl, sym, ap, _∙_}
-use mathlib.Core.Bool.{Bool, true, false, not}
+use mathlib.Core.Bool.{Bool, true, false}
 use mathlib.Core.List.{List}
 use Prim.Native.Nat.{ℕ, _+_, _^_, _≤_, _<_}
 use native.Mathlib.Omega.{arith}
 use borrow.Author.Tests.{eq-eqb, ne-eqb}
 use lib.ListN.{length, getD, set, take}
 use lib.Seq.{getD-set-same}
-use Rattle.bits.specs.Pick.{pick}
 use Rattle.bits.specs.Refusals.{numberOf}
 use Rattle.bits.specs.declared.refusal.Refusal.the-variants as refusal
 use Rattle.bits.proofs.Refusals.{above-zero}
@@ -23,14 +22,15 @@ use Rattle.replay.specs.Window.{blocks}
 use Rattle.replay.proofs.Tracks.{fresh-blocks, state-length}
 use Rattle.session.specs.declared.place.Place.{Place}
 use Rattle.session.specs.declared.place.Place.the-variants.{At, Nowhere}
-use Rattle.session.specs.Session.{Made, Record, Session}
-use Rattle.session.specs.Adding.{notAdded, addOf}
+use Rattle.session.specs.Session.{Record, Session}
+use Rattle.session.specs.Adding.{addOf}
 use Rattle.session.specs.Packets.{Effect, refuse, give, settled}
-use Rattle.session.specs.Records.{isFor, recordFor, withReplay, storeFor, hasSsrc, isFull, placed, freshRecord}
+use Rattle.session.specs.Records.{isFor, recordFor, withReplay, storeFor, isFull, placed, freshRecord}
 use Rattle.session.specs.Places.{noRecord, placeFrom, freeFrom}
 use Rattle.session.specs.Calls.{Left, withoutBuffer, withReplayAt, withRecordAt, placedAt, addedIn, settledIn}
 use Rattle.session.specs.Memory.{number, recordLayout, theReplay, each, recordWords, setupLayout, theMark, isMark, setupFrom, size, recordPlace, recordsIn, setupAt, decode}
 use Rattle.session.specs.RoundTrip.{RecordFits}
+use Rattle.session.proofs.Adding.{add-cases}
 use Rattle.session.proofs.Places.{first-here, nowhere, free, full}
 use Rattle.session.proofs.Memory.{made, not-made, unmade-nowhere}
 use Rattle.session.proofs.Records.{record-kept, record-length, records-length, record-became, replay-became}
@@ -162,18 +162,7 @@ module _ (words : List ℕ) (sized : length words ≡ size) (ssrc rollover : ℕ
       })
 
   pub added-holds : Holds (addedIn words new (addOf (decode words) ssrc way rollover)) (addOf (decode words) ssrc way rollover .session)
-  unfolding addOf
-  added-holds = go (decode words .setup .made) (hasSsrc (decode words .records) ssrc) (isFull (decode words .records)) refl refl
-    where
-      outcome : Bool → Bool → Bool → Made
-      outcome a b c =
-          pick (not a) (notAdded (decode words) refusal.Keys)
-          (pick b (notAdded (decode words) refusal.Twice)
-          (pick c (notAdded (decode words) refusal.Full)
-          (record { number = 0; session = record { setup = decode words .setup; records = placed (decode words .records) new } })))
-
-      go : (a b c : Bool) → decode words .setup .made ≡ a → isFull (decode words .records) ≡ c → Holds (addedIn words new (outcome a b c)) (outcome a b c .session)
-      go false b c m f = record { session = refl; long = sized }
-      go true true c m f = record { session = refl; long = sized }
-      go true false true m f = record { session = refl; long = sized }
-      go true false false m f = placed-holds m f (freeFrom 0 (decode words .records)) refl
+  added-holds =
+      add-cases (decode words) ssrc way rollover (λ m. Holds (addedIn words new m) (m .session))
+      (λ r n. rw (ne-eqb (numberOf r) 0 (λ z. omega (arith, above-zero r))) (record { session = refl; long = sized }))
+      (λ m h f. placed-holds m f (freeFrom 0 (decode words .records)) refl)

@@ -1,4 +1,5 @@
 pub mod Places
+pub mod Making
 pub mod Adding
 pub mod Ids
 pub mod Records

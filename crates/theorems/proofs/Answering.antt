@@ -1,9 +1,8 @@
 -- Demand 1: one answer, and a refusal changes nothing.
 use mathlib.Core.Path.{_≡_, refl}
-use mathlib.Core.Bool.{Bool, true, false, not, _&&_}
+use mathlib.Core.Bool.{true}
 use mathlib.Core.List.{List, [], _∷_}
 use Prim.Native.Nat.{ℕ}
-use lib.Dec.{eqb, ltb}
 use lib.ListN.{length, take}
 use Rattle.bits.specs.Refusals.{numberOf}
 use Rattle.rtp_elements.specs.Mask.{among}
@@ -16,16 +15,16 @@ use Rattle.rtp_header.specs.Header.{blockOf, headerOf, ssrcOf}
 use Rattle.policies.specs.declared.policy.Way.{Way}
 use Rattle.policies.specs.declared.policy.Way.the-variants.{Sending, Receiving}
 use Rattle.session.specs.Session.{Setup, Session}
-use Rattle.session.specs.Records.{Found, recordFor, hasSsrc, isFull}
+use Rattle.session.specs.Records.{Found, recordFor}
 use Rattle.session.specs.Making.{unmade, sessionOf, makeOf}
 use Rattle.session.specs.Adding.{addOf}
 use Rattle.session.specs.Packets.{Effect, refuse, give, Outcome, settled}
+use Rattle.session.proofs.Making.{make-cases}
+use Rattle.session.proofs.Adding.{add-cases}
 use Rattle.session.proofs.Ways.{effectBy, outcomeBy, doneBy, outcome-is}
 use Rattle.theorems.specs.Answers.{numbersFor, bufferOf, Settled, OneAnswerEach}
 use Rattle.theorems.specs.Lists.{End, Call, add, protect, unprotect, addOutcome, outcomeOf}
-use Rattle.theorems.proofs.Records.{addBy}
 use Rattle.theorems.proofs.Refusing.{within, widen, HeaderIn, two-to-four, earlyNumbers, lateNumbers, Refuses, refuses-within, Timing, early, later, timing}
-use Rattle.theorems.proofs.Sending.{madeBy}
 
 -- ---- refused, and not
 
@@ -70,16 +69,14 @@ module _ (e : End) (buf : List ℕ) (n : ℕ) where
 
 -- ---- add
 
-add-settled : (s : Session) (e : End) (x : ℕ) (w : Way) (rollover : ℕ) (a b c : Bool)
-    → Settled s (add e x w rollover) (addOutcome (addBy s x w rollover a b c))
-add-settled s e x w rollover false b c = refused s (add e x w rollover) 15 refl
-add-settled s e x w rollover true true c = refused s (add e x w rollover) 17 refl
-add-settled s e x w rollover true false true = refused s (add e x w rollover) 18 refl
-add-settled s e x w rollover true false false = gave s (add e x w rollover) _ refl refl
+add-settled : (s : Session) (e : End) (x : ℕ) (w : Way) (rollover : ℕ) → Settled s (add e x w rollover) (addOutcome (addOf s x w rollover))
+add-settled s e x w rollover =
+    add-cases s x w rollover (λ m. Settled s (add e x w rollover) (addOutcome m))
+    (λ r n. refused s (add e x w rollover) (numberOf r) (widen (15 ∷ 17 ∷ 18 ∷ []) (numbersFor (add e x w rollover)) refl (numberOf r) n))
+    (λ m h f. gave s (add e x w rollover) _ refl refl)
 
 answered : (s : Session) (c : Call) → Settled s c (outcomeOf s c)
-unfolding addOf
-answered s (add e x w rollover) = add-settled s e x w rollover (s .setup .made) (hasSsrc (s .records) x) (isFull (s .records))
+answered s (add e x w rollover) = add-settled s e x w rollover
 answered s (protect e buf n) = packet-answered e buf n Sending s
 answered s (unprotect e buf n) = packet-answered e buf n Receiving s
 
@@ -104,25 +101,21 @@ finds p id = in-finds p id (headerOf p 0) (two-to-four p 0)
 
 -- ---- make
 
-made-number : (key salt : List ℕ) (policy : ℕ) (ids : List ℕ) (a b : Bool) → among (0 ∷ 15 ∷ 16 ∷ []) (madeBy key salt policy ids a b .number) ≡ true
-made-number key salt policy ids true b = refl
-made-number key salt policy ids false true = refl
-made-number key salt policy ids false false = refl
+made-number : (key salt : List ℕ) (policy : ℕ) (ids : List ℕ) → among (0 ∷ 15 ∷ 16 ∷ []) (makeOf key salt policy ids .number) ≡ true
+made-number key salt policy ids =
+    make-cases key salt policy ids (λ m. among (0 ∷ 15 ∷ 16 ∷ []) (m .number) ≡ true) (λ r n. widen (15 ∷ 16 ∷ []) (0 ∷ 15 ∷ 16 ∷ []) refl (numberOf r) n) refl
 
-made-refused : (key salt : List ℕ) (policy : ℕ) (ids : List ℕ) (a b : Bool) → (madeBy key salt policy ids a b .number ≡ 0 → ⊥)
-    → madeBy key salt policy ids a b .session ≡ sessionOf unmade
-made-refused key salt policy ids true b z = refl
-made-refused key salt policy ids false true z = refl
-made-refused key salt policy ids false false z = absurd (z refl)
+made-refused : (key salt : List ℕ) (policy : ℕ) (ids : List ℕ) → (makeOf key salt policy ids .number ≡ 0 → ⊥) → makeOf key salt policy ids .session ≡ sessionOf unmade
+made-refused key salt policy ids = make-cases key salt policy ids (λ m. (m .number ≡ 0 → ⊥) → m .session ≡ sessionOf unmade) (λ r n z. refl) (λ z. absurd (z refl))
 
 pub one-answer-each : OneAnswerEach
-unfolding makeOf addOf
+unfolding addOf
 one-answer-each =
     record {
       calls = answered;
       find-number = λ p id. finds p id .number;
       find-refused = λ p id. finds p id .none;
-      number = λ key salt policy ids. made-number key salt policy ids (not (eqb (length key) 16 && eqb (length salt) 14)) (ltb 3 policy);
-      refused = λ key salt policy ids. made-refused key salt policy ids (not (eqb (length key) 16 && eqb (length salt) 14)) (ltb 3 policy);
+      number = made-number;
+      refused = made-refused;
       no-stream = λ s e ssrc way rollover. rw e;
     }

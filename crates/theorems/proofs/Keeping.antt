@@ -5,7 +5,7 @@ use mathlib.Core.List.{List, [], _∷_}
 use Prim.Native.Nat.{ℕ, zero, suc, _+_, _*_, _<_}
 use native.Mathlib.Omega.{arith}
 use borrow.Author.Tests.{ne-eqb, eqb-false}
-use lib.Dec.{eqb, ltb}
+use lib.Dec.{eqb}
 use lib.ListN.{length, take, replicate}
 use Rattle.bits.proofs.Bits.{packed-ext}
 use Rattle.bits.proofs.Lists.{tabulate-ext}
@@ -17,18 +17,19 @@ use Rattle.replay.specs.State.{ReplayState}
 use Rattle.policies.specs.declared.policy.Way.{Way}
 use Rattle.policies.specs.declared.policy.Way.the-variants.{Sending, Receiving}
 use Rattle.session.specs.Session.{Record, Session}
-use Rattle.session.specs.Records.{isFree, isFor, freePlace, freshRecord, none, changeFirst, recordFor, withReplay, storeFor, hasSsrc, isFull, placed}
+use Rattle.session.specs.Records.{isFree, isFor, freePlace, freshRecord, none, changeFirst, recordFor, withReplay, storeFor, hasSsrc, placed}
 use Rattle.session.specs.Making.{counts, idsOf, unmade, sessionOf, makeOf}
 use Rattle.session.specs.Adding.{addOf}
 use Rattle.session.specs.Packets.{Effect, refuse, give, settled, protectOf, unprotectOf}
+use Rattle.session.proofs.Making.{make-cases}
+use Rattle.session.proofs.Adding.{add-cases}
 use Rattle.session.proofs.Ids.{ids-listed}
 use Rattle.session.proofs.Ways.{doneBy}
 use Rattle.theorems.specs.Lists.{End, sender, receiver, Call, add, protect, unprotect, endOf, Sessions, sessionAt, withSession, outcomeOf, next, after, justMade, EqualSets}
 use Rattle.theorems.specs.Sessions.{NoSsrcTwice, Sound, SessionsAreSound, EqualSetsEqualSessions, WordsAreTheSet}
-use Rattle.theorems.proofs.Records.{clash, or-false, free-for, stored-ssrc, addBy}
+use Rattle.theorems.proofs.Records.{clash, or-false, free-for, stored-ssrc}
 use Rattle.theorems.proofs.Settling.{none-given}
 use Rattle.theorems.proofs.Holding.{setup-outcome}
-use Rattle.theorems.proofs.Sending.{madeBy}
 
 -- ---- no SSRC twice
 
@@ -113,26 +114,23 @@ packet-left way s buf n e =
 
 -- ---- each call
 
-sound-by : (key salt : List ℕ) (policy : ℕ) (ids : List ℕ) (a b : Bool) → Sound (madeBy key salt policy ids a b .session)
-sound-by key salt policy ids true b = record { keys = λ e. clash false e refl; not-made = λ e. refl; places = refl; once = once-free 32 }
-sound-by key salt policy ids false true = record { keys = λ e. clash false e refl; not-made = λ e. refl; places = refl; once = once-free 32 }
-sound-by key salt policy ids false false = record { keys = λ e. refl; not-made = λ e. clash true refl e; places = refl; once = once-free 32 }
+unmade-sound : Sound (sessionOf unmade)
+unmade-sound = record { keys = λ e. clash false e refl; not-made = λ e. refl; places = refl; once = once-free 32 }
 
 made : (key salt : List ℕ) (policy : ℕ) (ids : List ℕ) → Sound (makeOf key salt policy ids .session)
-unfolding makeOf
-made key salt policy ids = sound-by key salt policy ids (not (eqb (length key) 16 && eqb (length salt) 14)) (ltb 3 policy)
+made key salt policy ids =
+    make-cases key salt policy ids (λ m. Sound (m .session)) (λ r n. unmade-sound)
+    (record { keys = λ e. refl; not-made = λ e. clash true refl e; places = refl; once = once-free 32 })
 
-add-sound : (s : Session) (x : ℕ) (w : Way) (rollover : ℕ) (a b c : Bool) → s .setup .made ≡ a → hasSsrc (s .records) x ≡ b → Sound s → Sound (addBy s x w rollover a b c .session)
-add-sound s x w rollover false b c e f o = o
-add-sound s x w rollover true true c e f o = o
-add-sound s x w rollover true false true e f o = o
-add-sound s x w rollover true false false e f o =
-    record {
+add-sound : (s : Session) (x : ℕ) (w : Way) (rollover : ℕ) → Sound s → Sound (addOf s x w rollover .session)
+add-sound s x w rollover o =
+    add-cases s x w rollover (λ m. Sound (m .session)) (λ r n. o)
+    (λ m h f. record {
       keys = o .keys;
-      not-made = λ z. clash _ e z;
+      not-made = λ z. clash _ m z;
       places = length-changed (λ r. isFree (r .kind)) (λ r. freshRecord x w rollover) (s .records) ∙ o .places;
-      once = once-placed (freshRecord x w rollover) (s .records) f (o .once);
-    }
+      once = once-placed (freshRecord x w rollover) (s .records) h (o .once);
+    })
 
 settled-sound : (s : Session) (buf : List ℕ) (x : ℕ) (w : Way) (d : Effect) → (s ≡ sessionOf unmade → settled s buf x w d .session ≡ s) → Sound s
     → Sound (settled s buf x w d .session)
@@ -146,8 +144,8 @@ settled-sound s buf x w (give m b t) f o =
     }
 
 kept : (s : Session) (c : Call) → Sound s → Sound (outcomeOf s c .session)
-unfolding addOf protectOf unprotectOf
-kept s (add e x w rollover) o = add-sound s x w rollover (s .setup .made) (hasSsrc (s .records) x) (isFull (s .records)) refl refl o
+unfolding protectOf unprotectOf
+kept s (add e x w rollover) o = add-sound s x w rollover o
 kept s (protect e buf n) o = settled-sound s buf (ssrcOf (take n buf)) Sending (doneBy Sending s buf n) (packet-left Sending s buf n) o
 kept s (unprotect e buf n) o = settled-sound s buf (ssrcOf (take n buf)) Receiving (doneBy Receiving s buf n) (packet-left Receiving s buf n) o
 

@@ -8,14 +8,16 @@ use borrow.Author.Tests.{eq-eqb, eqb-true}
 use lib.Dec.{eqb}
 use Rattle.bits.specs.Pick.{pick}
 use Rattle.bits.specs.declared.refusal.Refusal.the-variants as refusal
+use Rattle.bits.proofs.Refusals.{above-zero}
 use Rattle.replay.specs.State.{ReplayState}
 use Rattle.policies.specs.declared.policy.Way.{Way}
 use Rattle.policies.specs.declared.policy.Way.the-variants.{Sending, Receiving}
 use Rattle.packet_cipher.proofs.Crypting.{and-left, and-right}
 use Rattle.policies.proofs.Layouts.{apart}
-use Rattle.session.specs.Session.{Kind, Free, Sender, Receiver, Record, Session, Made}
+use Rattle.session.specs.Session.{Kind, Free, Sender, Receiver, Record, Session}
 use Rattle.session.specs.Records.{kindOf, hasWay, isFree, isFor, freshRecord, none, some, firstIn, changeFirst, recordFor, withReplay, storeFor, hasSsrc, isFull, placed}
-use Rattle.session.specs.Adding.{notAdded, addOf}
+use Rattle.session.specs.Adding.{addOf}
+use Rattle.session.proofs.Adding.{add-cases}
 
 -- ---- tests
 
@@ -165,69 +167,33 @@ placed-ssrc : (x : ℕ) (n : Record) (l : List Record) → hasSsrc (placed l n) 
 placed-ssrc x n [] e = e
 placed-ssrc x n (q ∷ l) e = placed-step x q n l (isFree (q .kind)) refl (placed-ssrc x n l) e
 
--- ---- add, by its tests
-
-abbrev pub addBy : Session → ℕ → Way → ℕ → Bool → Bool → Bool → Made
-addBy s x w rollover a b c =
-    pick (not a) (notAdded s refusal.Keys)
-    (pick b (notAdded s refusal.Twice)
-    (pick c (notAdded s refusal.Full)
-    (record { number = 0; session = record { setup = s .setup; records = placed (s .records) (freshRecord x w rollover) } })))
+-- ---- add
 
 module _ (s : Session) (x : ℕ) (w : Way) (rollover : ℕ) where
-  pub add-is : addOf s x w rollover ≡ addBy s x w rollover (s .setup .made) (hasSsrc (s .records) x) (isFull (s .records))
-  unfolding addOf
-  add-is = refl
+  -- P of the session after an add with a result
+  module _ (P : Session → Type 0) (done : s .setup .made ≡ true → hasSsrc (s .records) x ≡ false → isFull (s .records) ≡ false
+      → P (record { setup = s .setup; records = placed (s .records) (freshRecord x w rollover) })) where
+    added : addOf s x w rollover .number ≡ 0 → P (addOf s x w rollover .session)
+    added = add-cases s x w rollover (λ m. m .number ≡ 0 → P (m .session)) (λ r n z. absurd (omega (arith, above-zero r))) (λ m h f z. done m h f)
 
-  -- with a result, the new record is found
-  done-by : (a b c : Bool) → hasSsrc (s .records) x ≡ b → isFull (s .records) ≡ c → addBy s x w rollover a b c .number ≡ 0
-      → recordFor (addBy s x w rollover a b c .session .records) x w ≡ some (freshRecord x w rollover)
-  done-by false b c q k m = absurd (omega arith)
-  done-by true true c q k m = absurd (omega arith)
-  done-by true false true q k m = absurd (omega arith)
-  done-by true false false q k m = new-found x w rollover (s .records) k (none-found (s .records) x w q)
-
+  -- with a result, the new record is found; it was not there before, and the session is made
   pub add-found : addOf s x w rollover .number ≡ 0 → recordFor (addOf s x w rollover .session .records) x w ≡ some (freshRecord x w rollover)
-  unfolding addOf
-  add-found e = done-by (s .setup .made) (hasSsrc (s .records) x) (isFull (s .records)) refl refl e
-
-  setup-by : (a b c : Bool) → addBy s x w rollover a b c .session .setup ≡ s .setup
-  setup-by false b c = refl
-  setup-by true true c = refl
-  setup-by true false true = refl
-  setup-by true false false = refl
-
-  pub add-setup : addOf s x w rollover .session .setup ≡ s .setup
-  unfolding addOf
-  add-setup = setup-by (s .setup .made) (hasSsrc (s .records) x) (isFull (s .records))
-
-  -- and it was not there before
-  new-by : (a b c : Bool) → addBy s x w rollover a b c .number ≡ 0 → b ≡ false
-  new-by false b c m = absurd (omega arith)
-  new-by true true c m = absurd (omega arith)
-  new-by true false c m = refl
+  add-found = added (λ t. recordFor (t .records) x w ≡ some (freshRecord x w rollover)) (λ m h f. new-found x w rollover (s .records) f (none-found (s .records) x w h))
 
   pub add-new : addOf s x w rollover .number ≡ 0 → hasSsrc (s .records) x ≡ false
-  unfolding addOf
-  add-new e = new-by (s .setup .made) (hasSsrc (s .records) x) (isFull (s .records)) e
-
-  made-by : (a b c : Bool) → addBy s x w rollover a b c .number ≡ 0 → a ≡ true
-  made-by false b c m = absurd (omega arith)
-  made-by true b c m = refl
+  add-new = added (λ t. hasSsrc (s .records) x ≡ false) (λ m h f. h)
 
   pub add-made : addOf s x w rollover .number ≡ 0 → s .setup .made ≡ true
-  unfolding addOf
-  add-made e = made-by (s .setup .made) (hasSsrc (s .records) x) (isFull (s .records)) e
+  add-made = added (λ t. s .setup .made ≡ true) (λ m h f. m)
 
-  absent-by : (y : ℕ) (a b c : Bool) → hasSsrc (addBy s x w rollover a b c .session .records) y ≡ false → hasSsrc (s .records) y ≡ false
-  absent-by y false b c e = e
-  absent-by y true true c e = e
-  absent-by y true false true e = e
-  absent-by y true false false e = placed-ssrc y (freshRecord x w rollover) (s .records) e
+  -- with a result or not
+  pub add-setup : addOf s x w rollover .session .setup ≡ s .setup
+  add-setup = add-cases s x w rollover (λ m. m .session .setup ≡ s .setup) (λ r n. refl) (λ m h f. refl)
 
   pub add-absent : (y : ℕ) → hasSsrc (addOf s x w rollover .session .records) y ≡ false → hasSsrc (s .records) y ≡ false
-  unfolding addOf
-  add-absent y e = absent-by y (s .setup .made) (hasSsrc (s .records) x) (isFull (s .records)) e
+  add-absent y =
+      add-cases s x w rollover (λ m. hasSsrc (m .session .records) y ≡ false → hasSsrc (s .records) y ≡ false) (λ r n e. e)
+      (λ m h f. placed-ssrc y (freshRecord x w rollover) (s .records))
 
 -- a record that is there stays
 module _ (s : Session) (y : ℕ) (v : Way) (rollover : ℕ) (x : ℕ) (w : Way) (r : Record) (e : recordFor (s .records) x w ≡ some r) where
@@ -238,12 +204,7 @@ module _ (s : Session) (y : ℕ) (v : Way) (rollover : ℕ) (x : ℕ) (w : Way) 
       let n : recordFor (s .records) x w ≡ none = none-found (s .records) x w (rw z at h) in
       apart cc)
 
-  keeps-by : (a b c : Bool) → hasSsrc (s .records) y ≡ b → recordFor (addBy s y v rollover a b c .session .records) x w ≡ some r
-  keeps-by false b c h = e
-  keeps-by true true c h = e
-  keeps-by true false true h = e
-  keeps-by true false false h = old-found (s .records) (freshRecord y v rollover) x w (not-new h) ∙ e
-
   pub add-keeps : recordFor (addOf s y v rollover .session .records) x w ≡ some r
-  unfolding addOf
-  add-keeps = keeps-by (s .setup .made) (hasSsrc (s .records) y) (isFull (s .records)) refl
+  add-keeps =
+      add-cases s y v rollover (λ m. recordFor (m .session .records) x w ≡ some r) (λ q n. e)
+      (λ m h f. old-found (s .records) (freshRecord y v rollover) x w (not-new h) ∙ e)

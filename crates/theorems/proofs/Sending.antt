@@ -1,12 +1,12 @@
 -- What a stream sends: each packet was protected under the index that the paper's rule gives it.
 use mathlib.Core.Path.{_≡_, refl, ap, _∙_, sym}
-use mathlib.Core.Bool.{Bool, true, false, not, _&&_}
+use mathlib.Core.Bool.{Bool, true, false, _&&_}
 use mathlib.Core.List.{List, [], _∷_}
 use Prim.Native.Nat.{ℕ, suc, _+_, _-_, _*_, _%_, _^_, _<_}
 use native.Mathlib.Decide.{decLt}
 use native.Mathlib.Omega.{arith}
 use borrow.Author.Tests.{ne-eqb, eqb-true, eqb-false}
-use lib.Dec.{eqb, ltb}
+use lib.Dec.{eqb}
 use lib.ListN.{length, getD, take, drop, length-take, List·getD-eq-default}
 use lib.Seq.{take-at, getD-take, length-take-le}
 use Rattle.bits.specs.Pick.{pick}
@@ -26,11 +26,12 @@ use Rattle.policies.specs.Judging.{addedOf, judgedOf}
 use Rattle.wire.specs.Wire.{wireOf, restoreOf}
 use Rattle.policies.proofs.Layouts.{apart}
 use Rattle.wire.proofs.RoundTrips.{sent-is-given-back}
-use Rattle.session.specs.Session.{Record, Setup, Session, Made}
+use Rattle.session.specs.Session.{Record, Setup, Session}
 use Rattle.session.specs.Records.{some, withReplay, storeFor, freshRecord}
-use Rattle.session.specs.Making.{setupOf, sessionOf, notMade, makeOf}
+use Rattle.session.specs.Making.{setupOf, makeOf}
 use Rattle.session.specs.Packets.{tagLength, listedBy, Effect, refuse, give, wireLength, protectEffect, Outcome, settled, protectOf, unprotectOf}
 use Rattle.session.proofs.Ways.{doneBy}
+use Rattle.session.proofs.Making.{make-cases}
 use Rattle.theorems.specs.Lists.{sender, receiver, Call, add, protect, unprotect, Sessions, justMade, Event, added, noEvent, eventsOf, Bytes}
 use Rattle.theorems.specs.Sent.{Sent, Last, noneSent, lastSent, indexOf, sentBy, sentFrom, SentAs, SentUnderItsIndex}
 use Rattle.theorems.proofs.Records.{clash, found-stored}
@@ -214,18 +215,9 @@ module _ (key salt : List ℕ) (policy : ℕ) (ids : List ℕ) where
   abbrev pub setup : Setup
   setup = makeOf key salt policy ids .session .setup
 
-  abbrev pub madeBy : Bool → Bool → Made
-  madeBy a b =
-      pick a (notMade refusal.Keys) (pick b (notMade refusal.Policy) (record { number = 0; session = sessionOf (setupOf key salt policy ids) }))
-
   pub made-setup : setup .made ≡ true → setup ≡ setupOf key salt policy ids
-  unfolding makeOf
-  made-setup e = go (not (eqb (length key) 16 && eqb (length salt) 14)) (ltb 3 policy) e
-    where
-      go : (a b : Bool) → madeBy a b .session .setup .made ≡ true → madeBy a b .session .setup ≡ setupOf key salt policy ids
-      go true b m = clash false m refl
-      go false true m = clash false m refl
-      go false false m = refl
+  made-setup =
+      make-cases key salt policy ids (λ m. m .session .setup .made ≡ true → m .session .setup ≡ setupOf key salt policy ids) (λ r n e. clash false e refl) (λ e. refl)
 
   pub all-sent : (others : List ℕ) (calls : List Call) → Each Bytes calls → (x rollover i : ℕ) → rollover < 2 ^ 32
       → getD (eventsOf (justMade key salt policy ids others) calls) i noEvent ≡ added sender x Sending rollover
