@@ -1,5 +1,5 @@
 -- The cipher leaves the fixed header and the extension header alone, and undoes itself.
-use mathlib.Core.Path.{_≡_, refl, ap, _∙_}
+use mathlib.Core.Path.{_≡_, refl, sym, ap, _∙_}
 use mathlib.Core.Bool.{Bool, true, false, _&&_}
 use mathlib.Core.Logic.{_⊎_, inl, inr}
 use mathlib.Core.List.{List}
@@ -16,6 +16,7 @@ use Rattle.rtp_header.specs.declared.header.Layout.{Layout}
 use Rattle.rtp_elements.specs.Elements.{wholeOf}
 use Rattle.rtp_header.specs.Header.{layoutOf, blockOf}
 use Rattle.rtp_elements.specs.Mask.{maskOf, maskedOf, maskedPad}
+use Rattle.rtp_elements.proofs.Walks.{masked-is}
 use Rattle.rtp_claims.proofs.Alike.{masked-reads-alike}
 use Rattle.policies.specs.declared.policy.Policy.{Policy}
 use Rattle.policies.specs.declared.policy.Policy.the-variants.{Plain, Cryptex, CryptexRequired, Mask}
@@ -95,10 +96,11 @@ module _ (listed : ℕ → Bool) (stream header-stream : ℕ → ℕ) (p : List 
       simp (lt-ltb (layoutOf p .block + i) (layoutOf p .payload) (omega arith), le-ltb (layoutOf p .block + i) (layoutOf p .block) (omega arith), e)
 
   pub crypted-block : blockOf (layoutOf p) (cryptedOf Mask listed stream header-stream p) ≡ maskedOf listed (layoutOf p .tag) header-stream (blockOf (layoutOf p) p)
-  unfolding maskedOf mask
+  unfolding mask
   crypted-block =
       part-crypted Mask listed stream header-stream (layoutOf p .block) (layoutOf p .payload - layoutOf p .block) p
       ∙ pad-ext (λ i. padOf Mask listed stream header-stream p (layoutOf p .block + i)) (maskedPad mask header-stream) (blockOf (layoutOf p) p) inside
+      ∙ sym (masked-is listed (layoutOf p .tag) header-stream (blockOf (layoutOf p) p))
 
   crypted-mask : maskOf listed (layoutOf p .tag) (blockOf (layoutOf p) (cryptedOf Mask listed stream header-stream p)) ≡ maskOf listed (layoutOf p .tag) (blockOf (layoutOf p) p)
   crypted-mask = ap (maskOf listed (layoutOf p .tag)) crypted-block ∙ masked-reads-alike .mask listed listed (layoutOf p .tag) header-stream (blockOf (layoutOf p) p)

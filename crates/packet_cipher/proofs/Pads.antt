@@ -1,5 +1,5 @@
 -- Parts of a list with a pad, and a pad made in a list of zeros.
-use mathlib.Core.Path.{_≡_, refl, ap, ap₂, _∙_}
+use mathlib.Core.Path.{_≡_, refl, sym, ap, ap₂, _∙_}
 use mathlib.Core.Bool.{Bool}
 use mathlib.Core.List.{List, [], _∷_, _++_}
 use Prim.Native.Nat.{ℕ, zero, suc, _+_, _-_, _≤_, _<_}
@@ -15,6 +15,7 @@ use Rattle.bits.proofs.Xor.{length-pad, pad-at, pad-ext}
 use Rattle.aes_cm.specs.Portion.{portionPad}
 use Rattle.aes_cm.proofs.Portions.{whole}
 use Rattle.rtp_elements.specs.Mask.{maskOf, maskedPad, maskedOf}
+use Rattle.rtp_elements.proofs.Walks.{masked-is}
 
 pub take-pad : (n : ℕ) (f : ℕ → ℕ) (l : List ℕ) → take n (xorPad f l) ≡ xorPad f (take n l)
 take-pad zero f l = refl
@@ -56,7 +57,8 @@ module _ (z x : List ℕ) (n : ℕ) (stream : ℕ → ℕ) (e : z ≡ replicate 
 
   -- then the block is masked by that keystream
   pub masked-by : (listed : ℕ → Bool) (tag : ℕ) (block r : List ℕ) → length block ≡ n → maskedOf listed tag (λ k. getD (x ++ r) k 0) block ≡ maskedOf listed tag stream block
-  unfolding maskedOf
   masked-by listed tag block r c =
-      pad-ext (maskedPad (maskOf listed tag block) (λ k. getD (x ++ r) k 0)) (maskedPad (maskOf listed tag block) stream) block
+      masked-is listed tag (λ k. getD (x ++ r) k 0) block
+      ∙ pad-ext (maskedPad (maskOf listed tag block) (λ k. getD (x ++ r) k 0)) (maskedPad (maskOf listed tag block) stream) block
       (λ k h. ap (λ (a : ℕ). pick (eqb (getD (maskOf listed tag block) k 0x00) 0xFF) a 0) (made-at r k (omega arith)))
+      ∙ sym (masked-is listed tag stream block)

@@ -18,6 +18,7 @@ use Rattle.rtp_header.specs.declared.header.Layout.{Layout}
 use Rattle.rtp_elements.specs.Elements.{wholeOf}
 use Rattle.rtp_header.specs.Header.{layoutOf, blockOf}
 use Rattle.rtp_elements.specs.Mask.{maskOf, maskedPad, maskedOf}
+use Rattle.rtp_elements.proofs.Walks.{masked-is}
 use Rattle.packet_cipher.specs.declared.cipher.Portion.{Portion}
 use Rattle.policies.specs.declared.policy.Policy.{Policy}
 use Rattle.policies.specs.declared.policy.Policy.the-variants.{Plain, Cryptex, CryptexRequired, Mask}
@@ -104,12 +105,13 @@ module _ (listed : ℕ → Bool) (stream header-stream : ℕ → ℕ) (p : List 
       (m : ys ≡ maskedOf listed (layoutOf p .tag) header-stream (blockOf (layoutOf p) q)) where
     masked : take (layoutOf p .block) q ++ (ys ++ drop (layoutOf p .payload - layoutOf p .block) (drop (layoutOf p .block) q))
         ≡ xorPad (stretchPad (layoutOf p .block) (layoutOf p .payload) 0 blockPad) q
-    unfolding maskedOf blockPad
+    unfolding blockPad
     masked =
         let s = sound p in
         let n : length q ≡ length p = ap length e ∙ length-pad (portionPadOf (portionOf false (layoutOf p)) stream) p in
         stretch-part (layoutOf p .block) (layoutOf p .payload) 0 blockPad q ys (s .payload) (omega arith)
-        (m ∙ ap (λ (l : List ℕ). xorPad (maskedPad (maskOf listed (layoutOf p .tag) l) header-stream) (blockOf (layoutOf p) q)) (block-stays (layoutOf p) stream p q e)
+        (m ∙ masked-is listed (layoutOf p .tag) header-stream (blockOf (layoutOf p) q)
+        ∙ ap (λ (l : List ℕ). xorPad (maskedPad (maskOf listed (layoutOf p .tag) l) header-stream) (blockOf (layoutOf p) q)) (block-stays (layoutOf p) stream p q e)
         ∙ pad-ext blockPad (λ k. blockPad (0 + k)) (blockOf (layoutOf p) q) (λ k h. ap blockPad (omega arith)))
 
     pub two-passes : take (layoutOf p .block) q ++ (ys ++ drop (layoutOf p .payload - layoutOf p .block) (drop (layoutOf p .block) q))

@@ -16,10 +16,10 @@ use Rattle.rtp_elements.specs.declared.element.Element.{Element}
 use Rattle.rtp_elements.specs.declared.element.Found.{Found}
 use Rattle.rtp_elements.specs.declared.element.Found.the-variants.{At, Absent, Past}
 use Rattle.rtp_elements.specs.Elements.{NextByte, twoByte, startOf, within, wholeFrom, wholeOf}
-use Rattle.rtp_elements.specs.Mask.{maskOf, maskedOf}
+use Rattle.rtp_elements.specs.Mask.{maskedOf}
 use Rattle.rtp_elements.specs.Next.{nextOf}
 use Rattle.rtp_elements.proofs.element.Found.{the-type}
-use Rattle.rtp_elements.proofs.Walks.{maskedFrom}
+use Rattle.rtp_elements.proofs.Walks.{maskedFrom, masked-all}
 use Rattle.rtp_elements.proofs.Stepping.{toMask, Stepped, Over, next-absent, next-past, next-over}
 
 module _ (listed : ℕ → Bool) (tag : ℕ) (pad : ℕ → ℕ) where
@@ -35,8 +35,8 @@ module _ (listed : ℕ → Bool) (tag : ℕ) (pad : ℕ → ℕ) where
   masking-start block w = record { upto = omega arith; size = refl; whole = w; left = refl }
 
   to-mask-all : (block : List ℕ) → toMask listed tag pad block 0 ≡ maskedOf listed tag pad block
-  unfolding maskedOf maskOf
-  to-mask-all block = ap (λ (g : ℕ → ℕ). maskedFrom listed (twoByte tag) (startOf tag) g block) (fun-ext (λ k. ap pad (omega arith)))
+  to-mask-all block =
+      ap (λ (g : ℕ → ℕ). maskedFrom listed (twoByte tag) (startOf tag) g block) (fun-ext (λ k. ap pad (omega arith))) ∙ sym (masked-all listed tag pad block)
 
   ended : (block₀ block : List ℕ) (i : ℕ) → Masking block₀ block i → Over tag block i → block ≡ maskedOf listed tag pad block₀
   ended block₀ block i m o = sym (o .masked listed pad) ∙ m .left ∙ to-mask-all block₀

@@ -12,12 +12,21 @@ use lib.ListN.{length, getD, take, drop}
 use Rattle.bits.specs.Pick.{pick}
 use Rattle.bits.specs.Xor.{_⊕_, xorPad}
 use Rattle.rtp_elements.specs.declared.element.Element.{Element}
-use Rattle.rtp_elements.specs.Elements.{NextByte, Between, Length, Ended, dataOf, opens, firstOf, endOf, within, begunOf, elementsFrom}
-use Rattle.rtp_elements.specs.Mask.{maskFrom, maskedPad}
+use Rattle.rtp_elements.specs.Elements.{NextByte, Between, Length, Ended, twoByte, dataOf, opens, startOf, firstOf, endOf, within, begunOf, elementsFrom}
+use Rattle.rtp_elements.specs.Mask.{maskFrom, maskOf, maskedPad, maskedOf}
 
 -- bytes from a place on, masked
 abbrev pub maskedFrom : (ℕ → Bool) → Bool → NextByte → (ℕ → ℕ) → List ℕ → List ℕ
 maskedFrom listed two p pad l = xorPad (maskedPad (maskFrom listed two p l) pad) l
+
+-- the block encrypted under its mask
+pub masked-is : (listed : ℕ → Bool) (tag : ℕ) (pad : ℕ → ℕ) (block : List ℕ) → maskedOf listed tag pad block ≡ xorPad (maskedPad (maskOf listed tag block) pad) block
+unfolding maskedOf
+masked-is listed tag pad block = refl
+
+pub masked-all : (listed : ℕ → Bool) (tag : ℕ) (pad : ℕ → ℕ) (block : List ℕ) → maskedOf listed tag pad block ≡ maskedFrom listed (twoByte tag) (startOf tag) pad block
+unfolding maskedOf maskOf
+masked-all listed tag pad block = refl
 
 -- ---- what the first byte of an element can be
 
