@@ -22,7 +22,7 @@ use Rattle.policies.specs.Policies.{usesCryptex}
 use Rattle.packet_cipher.specs.Cipher.{streamOf, headerStreamOf, cipherOf}
 use Rattle.packet_cipher.proofs.Crypting.{crypted-length}
 use Rattle.wire.proofs.Forms.{written-length}
-use Rattle.wire.proofs.Wires.{tag-code, wire-is}
+use Rattle.wire.proofs.Wires.{body-is, tag-code, wire-is}
 use Rattle.wire.proofs.Tagging.{count, small, not-added, is-added, grown}
 
 either-length : (t : Bool) (a b : List ℕ) → length a ≡ length b → length (pick t a b) ≡ length b
@@ -45,18 +45,18 @@ module _ (policy : Policy) (l : List ℕ) (n : ℕ) (h : Layout) (inside : n ≤
     body = bodyBy policy (cipherOf keys policy listed ssrc index) (take n l)
 
     body-length : length body ≡ n + pick (addsBlock policy h) 4 0
-    unfolding bodyBy
     body-length =
-        crypted-length policy listed (streamOf keys ssrc index) (headerStreamOf keys ssrc index) (taggedOf policy (givenBackOf policy (take n l)))
+        ap length (body-is policy (cipherOf keys policy listed ssrc index) (take n l))
+        ∙ crypted-length policy listed (streamOf keys ssrc index) (headerStreamOf keys ssrc index) (taggedOf policy (givenBackOf policy (take n l)))
         ∙ tagged-length policy (givenBackOf policy (take n l)) ∙ given-length (addsBlock policy h) refl
 
     -- the buffer b once the packet is encrypted, its length m
     module _ (m : ℕ) (em : m ≡ n + pick (addsBlock policy h) 4 0) (b : List ℕ) (eb : b ≡ body ++ drop m l) where
-      body-is : take m b ≡ body
-      body-is = ap (take m) eb ∙ take-at body (drop m l) m (body-length ∙ sym em)
+      in-buffer : take m b ≡ body
+      in-buffer = ap (take m) eb ∙ take-at body (drop m l) m (body-length ∙ sym em)
 
       pub body-front : take (m - 0) (drop 0 b) ≡ body
-      body-front = let z : m - 0 ≡ m = omega arith in ap (λ (k : ℕ). take k b) z ∙ body-is
+      body-front = let z : m - 0 ≡ m = omega arith in ap (λ (k : ℕ). take k b) z ∙ in-buffer
 
       pub body-small : length (take (m - 0) (drop 0 b)) ≤ 2048
       body-small = omega (arith, ap length body-front, body-length, small policy l n h inside e)
@@ -68,7 +68,7 @@ module _ (policy : Policy) (l : List ℕ) (n : ℕ) (h : Layout) (inside : n ≤
           let z : m + 10 - m ≡ 10 = omega arith in
           let k : take 10 code ≡ tagOf 10 keys index body = tag-code 10 keys index body code (rw body-front at c) in
           let g : drop m b ≡ drop m l = ap (drop m) eb ∙ drop-at body (drop m l) m (body-length ∙ sym em) in
-          ap₂ (λ (u v : List ℕ). u ++ v) body-is
+          ap₂ (λ (u v : List ℕ). u ++ v) in-buffer
           (ap₂ (λ (u v : List ℕ). u ++ v) (q ∙ k) (ap₂ (λ (i : ℕ) (v : List ℕ). drop i v) z g ∙ drop-drop 10 m l))
           ∙ sym (append-assoc body (tagOf 10 keys index body) (drop (m + 10) l))
           ∙ ap (λ (w : List ℕ). w ++ drop (m + 10) l) (sym (wire-is 10 keys index policy listed ssrc (take n l)))

@@ -16,8 +16,13 @@ use Rattle.hmac.proofs.Tags.{same-itself}
 use Rattle.packet_cipher.specs.declared.keys.Keys.{Keys}
 use Rattle.packet_cipher.specs.Cipher.{cipherOf}
 use Rattle.policies.specs.declared.policy.Policy.{Policy}
-use Rattle.policies.specs.Cryptex.{untaggedOf}
-use Rattle.wire.specs.Wire.{bodyBy, wireBy, restoreBy, tagOf, wireOf, restoreOf, tagFits}
+use Rattle.policies.specs.Cryptex.{taggedOf, untaggedOf}
+use Rattle.wire.specs.Wire.{givenBackOf, bodyBy, wireBy, restoreBy, tagOf, wireOf, restoreOf, tagFits}
+
+-- the authenticated portion
+pub body-is : (policy : Policy) (encrypt : List ℕ → List ℕ) (p : List ℕ) → bodyBy policy encrypt p ≡ encrypt (taggedOf policy (givenBackOf policy p))
+unfolding bodyBy
+body-is policy encrypt p = refl
 
 module _ (t : ℕ) (keys : Keys) (index : ℕ) where
   -- ---- the tag

@@ -1,12 +1,13 @@
 -- `packet_form::form::encrypt_packet` meets its contract.
-use mathlib.Core.Path.{_≡_, sym, ap, ap₂, _∙_}
+use mathlib.Core.Path.{sym, ap, ap₂, _∙_}
 use mathlib.Core.List.{List, _++_}
 use Prim.Native.Nat.{ℕ}
-use lib.ListN.{length, take}
+use lib.ListN.{take}
 use Rattle.rtp_elements.specs.Mask.{listedIn}
 use Rattle.packet_cipher.specs.Cipher.{cipherOf}
 use Rattle.policies.specs.Cryptex.{taggedOf}
-use Rattle.wire.specs.Wire.{givenBackOf, bodyBy}
+use Rattle.wire.specs.Wire.{givenBackOf}
+use Rattle.wire.proofs.Wires.{body-is}
 use Rattle.packet_form.proofs.Shaping.{part-front, part-back}
 use borrow.Author.Needs.{needs}
 use Rattle.packet_form.proofs.form.encrypt_packet.Statement.{statement}
@@ -36,16 +37,16 @@ same-length : tie.Need-same-length
 same-length c = search needs
 
 returns : tie.Need-returns
-unfolding bodyBy
 returns c =
     let k = c .before .before in
     let r = k .before .before .before .before .before in
     let s = r .before .before .before in
     let w = r .raise .ensures .1 .1 in
-    let f = part-front _ (givenBackOf (s .args .policy) (take (s .args .n) (s .args .buf .now))) (s .args .buf .now) _ (r .raise .ensures .1 .0) (w .long) in (
+    let f = part-front _ (givenBackOf (s .args .policy) (take (s .args .n) (s .args .buf .now))) (s .args .buf .now) _ (r .raise .ensures .1 .0) (w .long) in
+    let cipher = cipherOf (s .args .keys) (s .args .policy) (listedIn (s .args .ids .now)) (s .args .ssrc) (s .args .index) in (
       r .raise .ensures .0,
       ap₂ (λ (u v : List ℕ). u ++ v)
-          (k .encrypt .ensures ∙ ap (λ (u : List ℕ). cipherOf (s .args .keys) (s .args .policy) (listedIn (s .args .ids .now)) (s .args .ssrc) (s .args .index) (taggedOf (s .args .policy) u)) f)
+          (k .encrypt .ensures ∙ ap (λ (u : List ℕ). cipher (taggedOf (s .args .policy) u)) f ∙ sym (body-is (s .args .policy) cipher (take (s .args .n) (s .args .buf .now))))
           (part-back _ (givenBackOf (s .args .policy) (take (s .args .n) (s .args .buf .now))) (s .args .buf .now) _ (r .raise .ensures .1 .0) (w .long)),
     )
 
