@@ -13,7 +13,7 @@ use Rattle.bits.specs.Lists.{tabulate}
 use Rattle.bits.proofs.BigEndian.{to-from}
 use Rattle.bits.proofs.Bytes.{are-bytes, first-byte, other-bytes, cons-bytes}
 use Rattle.bits.proofs.Lists.{tabulated, tabulate-ext}
-use Rattle.memory.specs.Words.{Array, Lasts16, Lasts14, Numbers5}
+use Rattle.memory.specs.Words.{word, halves, Array, Lasts16, Lasts14, Numbers5}
 
 take-bytes : (n : ℕ) (l : List ℕ) → T (areBytes l) → T (areBytes (take n l))
 take-bytes zero l t = tt
@@ -29,7 +29,7 @@ written : (n : ℕ) (l : List ℕ) → T (areBytes l) → length l ≡ n → toB
 written n l t e = ap (λ (k : ℕ). toBytes k (fromBytes l)) (sym e) ∙ to-from l t
 
 -- eight bytes in the first word and n in the second
-pub bytes-kept : (n : ℕ) (l : List ℕ) → T (areBytes l) → length l ≡ 8 + n
+bytes-kept : (n : ℕ) (l : List ℕ) → T (areBytes l) → length l ≡ 8 + n
     → toBytes 8 (fromBytes (take 8 l)) ++ toBytes n (fromBytes (drop 8 l)) ≡ l
 bytes-kept n l t e =
     let d : length (drop 8 l) ≡ n = length-drop 8 l ∙ omega arith in
@@ -61,13 +61,21 @@ part-is at n l h =
     sym (tabulate-ext n (λ i. getD (take n (drop at l)) i 0) (λ i. getD l (at + i) 0) (λ i b. getD-take n (drop at l) i 0 b ∙ getD-drop at l i 0))
     ∙ tabulated 0 n (take n (drop at l)) (length-take-le n (drop at l) (omega arith))
 
-pub first-eight : (l : List ℕ) → 8 ≤ length l → fromBytes (tabulate 8 (λ i. getD l (0 + i) 0)) ≡ fromBytes (take 8 l)
+first-eight : (l : List ℕ) → 8 ≤ length l → fromBytes (tabulate 8 (λ i. getD l (0 + i) 0)) ≡ fromBytes (take 8 l)
 first-eight l h = ap fromBytes (part-is 0 8 l (omega arith))
 
-pub after-eight : (n : ℕ) (l : List ℕ) → length l ≡ 8 + n → fromBytes (tabulate n (λ i. getD l (8 + i) 0)) ≡ fromBytes (drop 8 l)
+after-eight : (n : ℕ) (l : List ℕ) → length l ≡ 8 + n → fromBytes (tabulate n (λ i. getD l (8 + i) 0)) ≡ fromBytes (drop 8 l)
 after-eight n l e =
     let d : length (drop 8 l) ≡ length l - 8 = length-drop 8 l in
     ap fromBytes (part-is 8 n l (omega arith) ∙ take-all n (drop 8 l) (omega arith))
+
+-- two words read of 8 + n bytes are their halves, and the bytes come back from them
+pub halved : (n : ℕ) (l : List ℕ) → Array (8 + n) 256 l → (x y : ℕ) → x ≡ fromBytes (tabulate 8 (λ i. getD l (0 + i) 0)) → y ≡ fromBytes (tabulate n (λ i. getD l (8 + i) 0))
+    → ((x ∷ y ∷ []) ≡ halves l) × (toBytes 8 (word (halves l) 0) ++ toBytes n (word (halves l) 1) ≡ l)
+halved n l a x y ex ey = (
+  ap₂ (λ (h k : ℕ). h ∷ k ∷ []) (ex ∙ first-eight l (omega (arith, a .long))) (ey ∙ after-eight n l (a .long)),
+  bytes-kept n l (are-bytes l (a .small)) (a .long),
+)
 
 -- two zeros in front count nothing
 pub zeros : (l : List ℕ) → fromBytes (0 ∷ 0 ∷ l) ≡ fromBytes l

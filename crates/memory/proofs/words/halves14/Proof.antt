@@ -1,15 +1,12 @@
 -- `memory::words::halves14` meets its contract.
-use mathlib.Core.Path.{_≡_, ap₂, _∙_}
-use mathlib.Core.List.{[], _∷_}
+use mathlib.Core.Path.{_∙_}
 use Prim.Native.Nat.{ℕ, _+_}
-use native.Mathlib.Omega.{arith}
-use lib.ListN.{length, getD}
-use Rattle.bits.specs.Lists.{tabulate}
-use Rattle.memory.proofs.Bytes.{first-eight, after-eight, zeros}
+use lib.ListN.{getD}
 use mir.Syntax.{w8}
 use mir.Val.{Fits}
 use borrow.Author.Needs.{needs}
-use Rattle.memory.proofs.Bytes.{fourteen-kept}
+use Rattle.bits.specs.Lists.{tabulate}
+use Rattle.memory.proofs.Bytes.{halved, zeros}
 use Rattle.memory.proofs.words.halves14.Statement.{statement}
 use Rattle.memory.proofs.words.halves14.Tie as tie
 
@@ -64,11 +61,8 @@ read64-requires-2 c κs = search needs
 returns : tie.Need-returns
 returns c =
     let b = c .before .before .args .t1 in
-    let l : length b ≡ 14 = search needs in
-    let f : (i : ℕ) → Fits w8 (getD b i 0) = λ i. search needs in (
-      ap₂ (λ (x y : ℕ). x ∷ y ∷ []) (c .before .read64 .ensures ∙ first-eight b (omega arith)) (c .read642 .ensures ∙ zeros (tabulate 6 (λ i. getD b (8 + i) 0)) ∙ after-eight 6 b l),
-      fourteen-kept b (record { long = l; small = λ i. f i .fits }),
-    )
+    let f : (i : ℕ) → Fits w8 (getD b i 0) = λ i. search needs in
+    halved 6 b (record { long = search needs; small = λ i. f i .fits }) _ _ (c .before .read64 .ensures) (c .read642 .ensures ∙ zeros (tabulate 6 (λ i. getD b (8 + i) 0)))
 
 pub halves14-spec : {M : Type 1} → statement M
 halves14-spec =

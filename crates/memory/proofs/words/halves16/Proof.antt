@@ -1,15 +1,10 @@
 -- `memory::words::halves16` meets its contract.
-use mathlib.Core.Path.{ap₂, _∙_}
-use mathlib.Core.List.{[], _∷_}
 use Prim.Native.Nat.{ℕ}
-use Rattle.memory.proofs.Bytes.{first-eight, after-eight}
-use native.Mathlib.Omega.{arith}
-use mathlib.Core.Path.{_≡_}
-use lib.ListN.{length, getD}
+use lib.ListN.{getD}
 use mir.Syntax.{w8}
 use mir.Val.{Fits}
 use borrow.Author.Needs.{needs}
-use Rattle.memory.proofs.Bytes.{sixteen-kept}
+use Rattle.memory.proofs.Bytes.{halved}
 use Rattle.memory.proofs.words.halves16.Statement.{statement}
 use Rattle.memory.proofs.words.halves16.Tie as tie
 
@@ -70,11 +65,8 @@ read64-requires-2 c κs = search needs
 returns : tie.Need-returns
 returns c =
     let b = c .before .before .args .t1 in
-    let l : length b ≡ 16 = search needs in
-    let f : (i : ℕ) → Fits w8 (getD b i 0) = λ i. search needs in (
-      ap₂ (λ (x y : ℕ). x ∷ y ∷ []) (c .before .read64 .ensures ∙ first-eight b (omega arith)) (c .read642 .ensures ∙ after-eight 8 b l),
-      sixteen-kept b (record { long = l; small = λ i. f i .fits }),
-    )
+    let f : (i : ℕ) → Fits w8 (getD b i 0) = λ i. search needs in
+    halved 8 b (record { long = search needs; small = λ i. f i .fits }) _ _ (c .before .read64 .ensures) (c .read642 .ensures)
 
 pub halves16-spec : {M : Type 1} → statement M
 halves16-spec =
