@@ -1,5 +1,5 @@
 -- A number of 32 bits with a sign, and its magnitude, in 64 bits.
-use mathlib.Core.Path.{_≡_, ap, _∙_, sym}
+use mathlib.Core.Path.{_≡_, refl, ap, _∙_, sym}
 use mathlib.Core.Bool.{true, false, true≢false}
 use Prim.Native.Nat.{ℕ, zero, suc}
 use native.Mathlib.Omega.{arith}
@@ -47,3 +47,15 @@ not-below x f h = rw (kept x f) (go x f (ap (λ (z : ℤ). ltZ z (toZ w64 0)) (s
     go : (z : ℤ) → SFits w32 z → ltZ z (toZ w64 0) ≡ false → T (nonNeg z) × Fits w64 (natAbs z)
     go (pos n) g t = (tt, record { fits = omega (arith, g .sfits) })
     go (negsuc n) g t = absurd (true≢false t)
+
+-- and in either case it is the magnitude
+away : (x : ℤ) → natAbs (pos 0 -ℤ x) ≡ natAbs x
+away (pos zero) = refl
+away (pos (suc n)) = rw (lt-ltb 0 (suc n) (omega arith)) (omega arith)
+away (negsuc n) = omega arith
+
+pub negated-size : (x : ℤ) → SFits w32 x → natAbs (toZ w64 (ofZ w64 (pos 0 -ℤ wide x))) ≡ natAbs x
+negated-size x f = rw (kept x f, toZ-ofZ w64 (pos 0 -ℤ x) (negative x f)) (away x)
+
+pub wide-size : (x : ℤ) → SFits w32 x → natAbs (wide x) ≡ natAbs x
+wide-size x f = ap natAbs (kept x f)

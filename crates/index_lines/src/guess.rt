@@ -7,9 +7,13 @@ use text::words::count;
 use text_output::output::put;
 use text_output::output::put_decimal;
 use text_output::output::put_two;
+ghost use mathlib.Core.Path.{_≡_};
+ghost use lib.IntN.{natAbs};
 
 // A number without its sign. As 64 bits, since one number of 32 has no negation of 32.
-fn magnitude(x: i32) -> u64 {
+fn magnitude(x: i32) -> u64
+    ensures { λ r. ⌜ r ≡ natAbs x ⌝ }
+{
     let wide = x as i64;
     if wide < 0 {
         return (0 - wide) as u64;
