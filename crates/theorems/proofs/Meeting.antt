@@ -1,11 +1,11 @@
 -- The example's list meets the premises.
 use mathlib.Core.Path.{_≡_, refl, ap, ap₂, _∙_, sym}
-use mathlib.Core.Bool.{Bool, true, false, _&&_}
+use mathlib.Core.Bool.{Bool, true, false, _&&_, _||_}
 use mathlib.Core.List.{List, [], _∷_, _++_, map}
 use Prim.Native.Nat.{ℕ, zero, suc, _+_, _^_, _<_, _≤_}
 use native.Mathlib.Omega.{arith}
-use borrow.Author.Tests.{ltb-true}
-use lib.Dec.{ltb}
+use borrow.Author.Tests.{ne-eqb, ltb-true}
+use lib.Dec.{eqb, ltb}
 use lib.ListN.{length, getD, take, drop, replicate, List·getD-append}
 use lib.Seq.{take-at, getD-take}
 use Rattle.bits.specs.Lists.{Each}
@@ -24,14 +24,26 @@ use Rattle.packet_cipher.proofs.Crypting.{and-left, and-right}
 use Rattle.session.specs.Making.{keysOf, idsOf, makeOf}
 use Rattle.session.specs.Adding.{addOf}
 use Rattle.session.specs.Packets.{Answer, protectEffect, unprotectEffect, protectOf, unprotectOf}
-use Rattle.theorems.specs.Lists.{sender, receiver, Call, add, protect, unprotect, added, noEvent, Bytes}
+use Rattle.theorems.specs.Lists.{sender, receiver, Call, add, protect, unprotect, EqualSets, added, noEvent, Bytes}
 use Rattle.theorems.specs.Sent.{Sent, noneSent, sentFrom, noPacket, SentAs, SentUnderItsIndex}
 use Rattle.theorems.specs.Arrivals.{Mark, Arrival, arrivalsOf, othersOf, Carries, Premises, Right, AsTheLedger}
 use Rattle.theorems.specs.DemandThree.{DemandThree}
-use Rattle.theorems.specs.Example.{key, salt, voice, drums, calls, events, wire, sentAs, voice0, voice1, voice2, voice3, voice4, drums0, wrongVersion, voiceSent, drumsSent, marked, voiceMarks, drumsMarks, PremisesAreMet, answerAt, HollowProgramsDiffer}
+use Rattle.theorems.specs.Example.{key, salt, ids, others, voice, drums, calls, events, wire, sentAs, voice0, voice1, voice2, voice3, voice4, drums0, wrongVersion, voiceSent, drumsSent, marked, voiceMarks, drumsMarks, PremisesAreMet, answerAt, HollowProgramsDiffer}
 use Rattle.theorems.proofs.Records.{clash}
 use Rattle.theorems.proofs.Sending.{sent-under-its-index}
 use Rattle.theorems.proofs.DemandThree.{demand-three}
+
+-- ---- sets
+
+-- 3 and 5, with a 0 between them, or the other way round with a 3 more
+sets : EqualSets ids others
+sets id above below = rw (ne-eqb id 0 (λ z. omega arith)) (go (eqb id 3) (eqb id 5))
+  where
+    go : (a b : Bool) → (a || (false || (b || false))) ≡ (b || (a || (a || false)))
+    go true true = refl
+    go true false = refl
+    go false true = refl
+    go false false = refl
 
 -- ---- bytes
 
@@ -81,7 +93,7 @@ pairOf s = record { index = s .index; packet = s .packet }
 abbrev sentPair : ℕ → Pair → Sent
 sentPair x p = sentAs x (p .index) (p .packet)
 
-known-wires : (x : ℕ) (l : List Sent) → Each (SentAs key salt 2 [] x) l → l ≡ map (sentPair x) (map pairOf l)
+known-wires : (x : ℕ) (l : List Sent) → Each (SentAs key salt 2 ids x) l → l ≡ map (sentPair x) (map pairOf l)
 known-wires x [] e = refl
 known-wires x (s ∷ l) (e, es) =
     ap₂ (λ (w : List ℕ) (r : List Sent). record { index = s .index; packet = s .packet; wire = w } ∷ r) (e .wire) (known-wires x l es)
@@ -105,9 +117,9 @@ unfolding makeOf addOf
 adds-drums = (refl, refl)
 
 under-index : (x rollover i : ℕ) → rollover < 2 ^ 32 → getD events i noEvent ≡ added sender x Sending rollover
-    → Each (SentAs key salt 2 [] x) (sentFrom x rollover noneSent events)
+    → Each (SentAs key salt 2 ids x) (sentFrom x rollover noneSent events)
 unfolding SentUnderItsIndex
-under-index x rollover i large q = sent-under-its-index key salt 2 [] [] calls bytes x rollover i large q
+under-index x rollover i large q = sent-under-its-index key salt 2 ids others calls bytes x rollover i large q
 
 pub sent : voiceSent ≡ sentFrom voice 0 noneSent events
 sent =
@@ -127,7 +139,7 @@ wire-ssrc : (x i : ℕ) (p : List ℕ) → areBytes p ≡ true → headerNumber 
     → ssrcOf (take (length (wire x i p)) (wire x i p ++ replicate 3 0)) ≡ ssrcOf p
 unfolding ssrcOf
 wire-ssrc x i p b h =
-    let t = sent-is-given-back .back (keysOf key salt) CryptexRequired (listedIn (idsOf [])) x i 10 p (omega arith) (are-bytes p b) h in
+    let t = sent-is-given-back .back (keysOf key salt) CryptexRequired (listedIn (idsOf ids)) x i 10 p (omega arith) (are-bytes p b) h in
     ap ssrcOf (starts (wire x i p))
     ∙ rw (t .header 8 (omega arith) (omega arith), t .header 9 (omega arith) (omega arith), t .header 10 (omega arith) (omega arith), t .header 11 (omega arith) (omega arith)) refl
 
@@ -142,9 +154,9 @@ junk-ssrc : ssrcOf (take (length wrongVersion) wrongVersion) ≡ voice
 unfolding ssrcOf
 junk-ssrc = refl
 
-others : othersOf voice (marked voiceMarks) (drop 2 events) ≡ 3 ∷ []
+other-calls : othersOf voice (marked voiceMarks) (drop 2 events) ≡ 3 ∷ []
 unfolding unprotectOf unprotectEffect judgedOf headerOf
-others = rw (of-drums, junk-ssrc)
+other-calls = rw (of-drums, junk-ssrc)
 
 of-voice0 : ssrcOf (place (wire voice 65534 voice0)) ≡ voice
 unfolding areBytes judgedOf headerOf boundedOf layoutOf ssrcOf
@@ -162,8 +174,8 @@ of-voice4 : ssrcOf (place (wire voice 65737 voice4)) ≡ voice
 unfolding areBytes judgedOf headerOf boundedOf layoutOf ssrcOf
 of-voice4 = wire-ssrc voice 65737 voice4 refl refl
 
-others-drums : othersOf drums (marked drumsMarks) (drop 4 events) ≡ []
-others-drums = rw (of-voice0, of-voice1, of-voice2, of-voice4, junk-ssrc)
+other-calls-drums : othersOf drums (marked drumsMarks) (drop 4 events) ≡ []
+other-calls-drums = rw (of-voice0, of-voice1, of-voice2, of-voice4, junk-ssrc)
 
 carried : (l : List Sent) (k : ℕ) (a : Answer) → k < length l
     → Carries l (record { packet = k; buffer = getD l k noPacket .wire ++ replicate 3 0; n = length (getD l k noPacket .wire); answer = a })
@@ -185,12 +197,12 @@ met =
           ),
         ),
       );
-      nothing-else = rw others (λ e. omega arith, tt);
+      nothing-else = rw other-calls (λ e. omega arith, tt);
       near = (refl, ((omega arith, omega arith), ((omega arith, omega arith), ((omega arith, omega arith), ((omega arith, omega arith), ((omega arith, omega arith), tt))))));
     }
 
 pub met-drums : Premises drums 7 drumsSent (marked drumsMarks) (drop 4 events)
-met-drums = record { carried = (carried drumsSent 0 _ (omega arith), tt); nothing-else = rw others-drums tt; near = (refl, tt) }
+met-drums = record { carried = (carried drumsSent 0 _ (omega arith), tt); nothing-else = rw other-calls-drums tt; near = (refl, tt) }
 
 -- ---- so the theorem gives the answers
 
@@ -208,11 +220,12 @@ followed : (x rollover i j : ℕ) → rollover < 2 ^ 32 → getD events i noEven
     → (l : List Sent) → l ≡ sentFrom x rollover noneSent events → (marks : ℕ → Mark) → Premises x rollover l marks (drop (suc j) events)
     → AsTheLedger CryptexRequired l [] (arrivalsOf marks (drop (suc j) events))
 unfolding DemandThree
-followed x rollover i j large there here l e marks p = demand-three key salt 2 [] [] (λ id a b. refl) calls .ledger bytes x rollover i j large there here l e marks p
+followed x rollover i j large there here l e marks p = demand-three key salt 2 ids others sets calls .ledger bytes x rollover i j large there here l e marks p
 
 pub premises-are-met : PremisesAreMet
 premises-are-met =
     record {
+      sets = sets;
       bytes = bytes;
       adds = adds;
       adds-drums = adds-drums;
@@ -234,7 +247,7 @@ not-as-it-is : (x i : ℕ) (p : List ℕ) → areBytes p ≡ true → headerNumb
     → profileFits Receiving CryptexRequired (layoutOf p) ≡ false → (layoutOf p .x ≡ true → layoutOf p .extension + 4 ≤ length p)
     → ((k : ℕ) → k < length p → getD (wire x i p) k 0 ≡ getD p k 0) → ⊥
 not-as-it-is x i p b h wrong fits same =
-    let t = sent-is-given-back .back (keysOf key salt) CryptexRequired (listedIn (idsOf [])) x i 10 p (omega arith) (are-bytes p b) h in
+    let t = sent-is-given-back .back (keysOf key salt) CryptexRequired (listedIn (idsOf ids)) x i 10 p (omega arith) (are-bytes p b) h in
     let l : layoutOf (wire x i p) ≡ layoutOf p = layout-same p (wire x i p) (same 0 (omega (arith, passed Sending CryptexRequired 10 p h .long))) (λ q k u v. same k (omega (arith, fits q))) in
     let f : profileFits Receiving CryptexRequired (layoutOf (wire x i p)) ≡ true = passed Receiving CryptexRequired 10 (wire x i p) (t .accepted) .profile in
     clash _ (rw l at f) wrong
@@ -242,7 +255,7 @@ not-as-it-is x i p b h wrong fits same =
 module _ (x i : ℕ) (p : List ℕ) (b : areBytes p ≡ true) (h : headerNumber (judgedOf Sending CryptexRequired 10 p) ≡ 0)
     (wrong : profileFits Receiving CryptexRequired (layoutOf p) ≡ false) (fits : layoutOf p .x ≡ true → layoutOf p .extension + 4 ≤ length p) where
   longer : length p ≤ length (wire x i p)
-  longer = omega (arith, sent-is-given-back .back (keysOf key salt) CryptexRequired (listedIn (idsOf [])) x i 10 p (omega arith) (are-bytes p b) h .size)
+  longer = omega (arith, sent-is-given-back .back (keysOf key salt) CryptexRequired (listedIn (idsOf ids)) x i 10 p (omega arith) (are-bytes p b) h .size)
 
   not-left-by-protect : (more rest : List ℕ) → wire x i p ++ rest ≡ p ++ more → ⊥
   not-left-by-protect more rest e =

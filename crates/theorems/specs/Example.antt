@@ -11,7 +11,7 @@ use Rattle.policies.specs.declared.policy.Way.the-variants.{Sending, Receiving}
 use Rattle.wire.specs.Wire.{wireOf}
 use Rattle.session.specs.Making.{keysOf, idsOf}
 use Rattle.session.specs.Packets.{Answer}
-use Rattle.theorems.specs.Lists.{sender, receiver, Call, add, protect, unprotect, justMade, Event, answerIn, callIn, added, noEvent, eventsOf, Bytes}
+use Rattle.theorems.specs.Lists.{sender, receiver, Call, add, protect, unprotect, justMade, EqualSets, Event, answerIn, callIn, added, noEvent, eventsOf, Bytes}
 use Rattle.theorems.specs.Answers.{bufferOf}
 use Rattle.theorems.specs.Sent.{Sent, noneSent, sentFrom}
 use Rattle.theorems.specs.Arrivals.{Mark, unmarked, carries, Arrival, arrivalsOf, Premises}
@@ -21,6 +21,13 @@ key = replicate 16 0x2B
 
 abbrev pub salt : List ℕ
 salt = replicate 14 0x7E
+
+-- the same set of ids, written otherwise at each end
+abbrev pub ids : List ℕ
+ids = 3 ∷ 0 ∷ 5 ∷ []
+
+abbrev pub others : List ℕ
+others = 5 ∷ 3 ∷ 3 ∷ []
 
 -- two streams: SSRC 01020304 from rollover 0, SSRC 0A0B0C0D from rollover 7
 abbrev pub voice : ℕ
@@ -61,7 +68,7 @@ wrongVersion = packetOf 0x00 (0 ∷ 1 ∷ []) voiceSsrc (replicate 20 0)
 
 -- what is sent for a packet, and in a buffer with more bytes after it
 abbrev pub wire : ℕ → ℕ → List ℕ → List ℕ
-wire ssrc index p = wireOf 10 (keysOf key salt) CryptexRequired (listedIn (idsOf [])) ssrc index p
+wire ssrc index p = wireOf 10 (keysOf key salt) CryptexRequired (listedIn (idsOf ids)) ssrc index p
 
 abbrev pub sending : List ℕ → Call
 sending p = protect sender (p ++ replicate 16 0) (length p)
@@ -86,7 +93,7 @@ calls =
     ∷ []
 
 abbrev pub events : List Event
-events = eventsOf (justMade key salt 2 [] []) calls
+events = eventsOf (justMade key salt 2 ids others) calls
 
 -- which packet arrives in the calls after the receiver's add: of the voice from call 2 on, of the drums from call 4 on
 abbrev pub marked : List Mark → ℕ → Mark
@@ -110,6 +117,7 @@ abbrev pub drumsSent : List Sent
 drumsSent = sentAs drums 458761 drums0 ∷ []
 
 pub record PremisesAreMet : Type 0 where
+  pub sets : EqualSets ids others
   pub bytes : Each Bytes calls
   pub adds : (getD events 0 noEvent ≡ added sender voice Sending 0) × (getD events 1 noEvent ≡ added receiver voice Receiving 0)
   pub adds-drums : (getD events 2 noEvent ≡ added sender drums Sending 7) × (getD events 3 noEvent ≡ added receiver drums Receiving 7)
