@@ -6,7 +6,6 @@ use Prim.Native.Nat.{ℕ, _+_, _^_, _≤_, _<_}
 use native.Mathlib.Omega.{arith}
 use borrow.Author.Tests.{eq-eqb, ne-eqb}
 use lib.ListN.{length, getD, set, take}
-use lib.Seq.{getD-set-same}
 use Rattle.bits.specs.Refusals.{numberOf}
 use Rattle.bits.specs.declared.refusal.Refusal.the-variants as refusal
 use Rattle.bits.proofs.Refusals.{above-zero}
@@ -25,13 +24,13 @@ use Rattle.session.specs.declared.place.Place.the-variants.{At, Nowhere}
 use Rattle.session.specs.Session.{Record, Session}
 use Rattle.session.specs.Adding.{addOf}
 use Rattle.session.specs.Packets.{Effect, refuse, give, settled}
-use Rattle.session.specs.Records.{isFor, recordFor, withReplay, storeFor, isFull, placed, freshRecord}
+use Rattle.session.specs.Records.{isFor, recordFor, withReplay, isFull, placed, freshRecord}
 use Rattle.session.specs.Places.{noRecord, placeFrom, freeFrom}
 use Rattle.session.specs.Calls.{Left, withoutBuffer, withReplayAt, withRecordAt, placedAt, addedIn, settledIn}
 use Rattle.session.specs.Memory.{number, recordLayout, theReplay, each, recordWords, setupLayout, theMark, isMark, setupFrom, size, recordPlace, recordsIn, setupAt, decode}
 use Rattle.session.specs.RoundTrip.{RecordFits}
 use Rattle.session.proofs.Adding.{add-cases}
-use Rattle.session.proofs.Places.{first-here, nowhere, free, full}
+use Rattle.session.proofs.Places.{first-here, nowhere, stored-there, free, full}
 use Rattle.session.proofs.Memory.{made, not-made, unmade-nowhere}
 use Rattle.session.proofs.Records.{record-kept, record-length, records-length, record-became, replay-became}
 use Rattle.session.proofs.Ways.{outcomeBy, callBy, doneBy, call-is, outcome-is}
@@ -108,10 +107,7 @@ module _ (words : List ℕ) (sized : length words ≡ size) (buf : List ℕ) (x 
       go (At i) e =
           let h = first-here (λ r. isFor r x way) (decode words .records) i e in
           let q = found-in i e in
-          let r : getD (storeFor (decode words .records) x way t) i noRecord .replay ≡ t =
-          ap (λ (l : List Record). getD l i noRecord .replay) (h .changed (λ r. withReplay r t))
-          ∙ ap (λ (k : Record). k .replay) (getD-set-same (decode words .records) i (withReplay (getD (decode words .records) i noRecord) t) noRecord (h .inside)) in
-          rw (e, r)
+          rw (e, stored-there (decode words .records) x way i e t)
           (record {
             session = replay-decodes words sized i (q .1) (q .0) t f ∙ sym (ap (λ (l : List Record). record { setup = decode words .setup; records = l }) (h .changed (λ r. withReplay r t)));
             long = replay-long words sized i (q .1) t f;

@@ -7,13 +7,15 @@ use native.Mathlib.Numerals.{add-one}
 use native.Mathlib.Omega.{arith}
 use lib.Dec.{eqb}
 use lib.ListN.{length, getD, set, drop, drop-of-length-le}
-use lib.Seq.{drop-cons}
+use lib.Seq.{drop-cons, getD-set-same}
 use Rattle.bits.specs.Pick.{pick}
+use Rattle.policies.specs.declared.policy.Way.{Way}
 use Rattle.policies.proofs.Layouts.{apart}
+use Rattle.replay.specs.State.{ReplayState}
 use Rattle.session.specs.declared.place.Place.the-variants.{At, Nowhere}
 use Rattle.session.specs.Session.{Record}
-use Rattle.session.specs.Records.{isFree, none, some, firstIn, changeFirst, hasSsrc, isFull}
-use Rattle.session.specs.Places.{noRecord, firstFrom}
+use Rattle.session.specs.Records.{isFree, isFor, none, some, firstIn, changeFirst, withReplay, storeFor, hasSsrc, isFull}
+use Rattle.session.specs.Places.{noRecord, firstFrom, placeFrom}
 
 -- ---- one step of a scan
 
@@ -99,6 +101,15 @@ module _ (test : Record → Bool) where
       go : (b : Bool) → test q ≡ b → (firstFrom test (suc k) l ≡ Nowhere → NoFirst l) → pick b (At k) (firstFrom test (suc k) l) ≡ Nowhere → NoFirst (q ∷ l)
       go true h rec e = apart cc
       go false h rec e = let p = rec e in record { found = rw h (p .found); changed = λ f. rw h (ap (λ (r : List Record). q ∷ r) (p .changed f)) }
+
+-- ---- the record of a stream
+
+-- stored at its place, the replay state is read there
+pub stored-there : (l : List Record) (x : ℕ) (w : Way) (i : ℕ) → placeFrom 0 l x w ≡ At i → (t : ReplayState) → getD (storeFor l x w t) i noRecord .replay ≡ t
+stored-there l x w i e t =
+    let h = first-here (λ r. isFor r x w) l i e in
+    ap (λ (k : List Record). getD k i noRecord .replay) (h .changed (λ r. withReplay r t))
+    ∙ ap (λ (r : Record). r .replay) (getD-set-same l i (withReplay (getD l i noRecord) t) noRecord (h .inside))
 
 -- ---- a free place, or none
 

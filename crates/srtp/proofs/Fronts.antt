@@ -7,7 +7,6 @@ use native.Mathlib.Omega.{arith}
 use borrow.Author.Tests.{ne-eqb, le-ltb, ltb-false}
 use lib.Dec.{eqb, ltb}
 use lib.ListN.{length, getD, take}
-use lib.Seq.{getD-set-same}
 use Rattle.bits.specs.Pick.{pick}
 use Rattle.bits.specs.Refusals.{numberOf}
 use Rattle.bits.specs.declared.refusal.Refusal.{Refusal}
@@ -32,10 +31,10 @@ use Rattle.session.specs.Calls.{Left, wrongMemory, refusedWith, Gives, settledI
 use Rattle.session.specs.Memory.{isMark, policyAt, size, decode}
 use Rattle.session.specs.Packets.{tagLength, wireLength, Effect, refuse, give, settled}
 use Rattle.session.specs.Places.{noRecord, placeFrom}
-use Rattle.session.specs.Records.{isFor, none, some, recordFor, storeFor, withReplay}
-use Rattle.session.specs.Session.{Record, Session}
+use Rattle.session.specs.Records.{isFor, none, some, recordFor}
+use Rattle.session.specs.Session.{Session}
 use Rattle.session.proofs.Memory.{made, policy-is, unmade-nowhere}
-use Rattle.session.proofs.Places.{first-here, nowhere}
+use Rattle.session.proofs.Places.{first-here, nowhere, stored-there}
 use Rattle.session.proofs.Ways.{inBy, readBy, callBy, effect-is, call-is, outcome-is}
 use Rattle.front.specs.declared.open.Opened.{Opened}
 use Rattle.records.specs.Tracks.{recordIn, judgedBy}
@@ -66,12 +65,7 @@ module _ (words buf : List ℕ) (n : ℕ) where
   module _ (way : Way) (i : ℕ) (here : placeFrom 0 (s .records) x way ≡ At i) where
     its-left : (e : Effect) → settledBy way e ≡ leftBy words i buf e
     its-left (refuse r) = refused-left way r
-    its-left (give m after t) =
-        let w = first-here (λ r. isFor r x way) (s .records) i here in
-        let r : getD (storeFor (s .records) x way t) i noRecord .replay ≡ t =
-        ap (λ (l : List Record). getD l i noRecord .replay) (w .changed (λ r. withReplay r t))
-        ∙ ap (λ (q : Record). q .replay) (getD-set-same (s .records) i (withReplay (getD (s .records) i noRecord) t) noRecord (w .inside)) in
-        rw (here, r)
+    its-left (give m after t) = rw (here, stored-there (s .records) x way i here t)
 
     -- a session with a record is made
     is-made : isMark (word words 0) ≡ true
