@@ -31,7 +31,7 @@ use Rattle.session.specs.Memory.{number, recordLayout, theReplay, each, 
 use Rattle.session.specs.RoundTrip.{RecordFits}
 use Rattle.session.proofs.Adding.{add-cases}
 use Rattle.session.proofs.Places.{first-here, nowhere, stored-there, free, full}
-use Rattle.session.proofs.Memory.{made, not-made, unmade-nowhere}
+use Rattle.session.proofs.Memory.{made, not-made, placed-made}
 use Rattle.session.proofs.Records.{record-kept, record-length, records-length, record-became, replay-became}
 use Rattle.session.proofs.Ways.{outcomeBy, callBy, doneBy, call-is, outcome-is}
 use Rattle.session.proofs.Shapes.{EffectFits, found-fits, effect-fits}
@@ -83,14 +83,10 @@ pub record Holds (l : Left) (s : Session) : Type 0 where
   pub long : length (l .words) ≡ size
 
 module _ (words : List ℕ) (sized : length words ≡ size) (buf : List ℕ) (x : ℕ) (way : Way) where
-  found-in : (i : ℕ) → placeFrom 0 (decode words .records) x way ≡ At i → (isMark (word words 0) ≡ true) × (i < 32)
-  found-in i e = go (isMark (word words 0)) refl
-    where
-      go : (b : Bool) → isMark (word words 0) ≡ b → (isMark (word words 0) ≡ true) × (i < 32)
-      go true m =
-          let n : length (decode words .records) ≡ 32 = ap (λ (s : Session). length (s .records)) (made words m) ∙ records-length words in
-          (m, omega (arith, first-here (λ r. isFor r x way) (decode words .records) i e .inside))
-      go false m = apart (let z = unmade-nowhere words m x way in cc)
+  found-in : (i : ℕ) → placeFrom 0 (decode words .records) x way ≡ At i → i < 32
+  found-in i e =
+      let n : length (decode words .records) ≡ 32 = ap (λ (s : Session). length (s .records)) (made words (placed-made words x way i e)) ∙ records-length words in
+      omega (arith, first-here (λ r. isFor r x way) (decode words .records) i e .inside)
 
   settled-holds : (e : Effect) → EffectFits e → Holds (settledIn words x way (settled (decode words) buf x way e)) (settled (decode words) buf x way e .session)
   settled-holds (refuse r) f = rw (ne-eqb (numberOf r) 0 (λ z. omega (arith, above-zero r))) (record { session = refl; long = sized })
@@ -107,10 +103,11 @@ module _ (words : List ℕ) (sized : length words ≡ size) (buf : List ℕ) (x 
       go (At i) e =
           let h = first-here (λ r. isFor r x way) (decode words .records) i e in
           let q = found-in i e in
+          let k = placed-made words x way i e in
           rw (e, stored-there (decode words .records) x way i e t)
           (record {
-            session = replay-decodes words sized i (q .1) (q .0) t f ∙ sym (ap (λ (l : List Record). record { setup = decode words .setup; records = l }) (h .changed (λ r. withReplay r t)));
-            long = replay-long words sized i (q .1) t f;
+            session = replay-decodes words sized i q k t f ∙ sym (ap (λ (l : List Record). record { setup = decode words .setup; records = l }) (h .changed (λ r. withReplay r t)));
+            long = replay-long words sized i q t f;
           })
 
 module _ (words : List ℕ) (sized : length words ≡ size) (buf : List ℕ) (n : ℕ) where

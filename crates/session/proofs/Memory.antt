@@ -2,7 +2,7 @@
 use mathlib.Core.Path.{_≡_, refl, sym, ap, ap₂, _∙_}
 use mathlib.Core.Bool.{Bool, true, false, not, _&&_}
 use mathlib.Core.List.{List}
-use Prim.Native.Nat.{ℕ, zero, suc, _+_, _-_, _*_, _/_, _%_, _^_, _≤_, _<_}
+use Prim.Native.Nat.{ℕ, zero, suc, _+_, _-_, _/_, _%_, _^_, _≤_, _<_}
 use native.Mathlib.Omega.{arith}
 use borrow.Author.Tests.{eqb-true, eqb-false, eq-eqb, ne-eqb, leb-true}
 use lib.Dec.{eqb, leb}
@@ -14,7 +14,8 @@ use Rattle.memory.proofs.Parts.{field-word}
 use Rattle.policies.specs.declared.policy.Policy.the-variants.{Plain}
 use Rattle.policies.specs.declared.policy.Way.{Way}
 use Rattle.policies.specs.declared.policy.Way.the-variants.{Sending, Receiving}
-use Rattle.session.specs.declared.place.Place.the-variants.{Nowhere}
+use Rattle.policies.proofs.Layouts.{apart}
+use Rattle.session.specs.declared.place.Place.the-variants.{At, Nowhere}
 use Rattle.session.specs.Session.{Free, Sender, Receiver, Session}
 use Rattle.session.specs.Making.{policyOf, unmade, sessionOf}
 use Rattle.session.specs.Records.{kindOf, hasWay, isFree, isFor, freePlace}
@@ -120,3 +121,11 @@ free-nowhere (suc n) k x w = rw (other-way (eqb 0 x)) (free-nowhere n (suc k) x 
 
 pub unmade-nowhere : (words : List ℕ) → isMark (word words 0) ≡ false → (x : ℕ) (w : Way) → placeFrom 0 (decode words .records) x w ≡ Nowhere
 unmade-nowhere words e x w = rw (not-made words e) (free-nowhere 32 0 x w)
+
+-- a session with a record is made
+pub placed-made : (words : List ℕ) (x : ℕ) (w : Way) (i : ℕ) → placeFrom 0 (decode words .records) x w ≡ At i → isMark (word words 0) ≡ true
+placed-made words x w i e = go (isMark (word words 0)) refl
+  where
+    go : (b : Bool) → isMark (word words 0) ≡ b → isMark (word words 0) ≡ true
+    go true m = m
+    go false m = apart (let z = unmade-nowhere words m x w in cc)

@@ -23,17 +23,16 @@ use Rattle.policies.specs.declared.policy.Policy.{Policy}
 use Rattle.policies.specs.declared.policy.Way.{Way}
 use Rattle.policies.specs.declared.policy.Way.the-variants.{Sending, Receiving}
 use Rattle.policies.specs.Judging.{addedOf, judgedOf}
-use Rattle.policies.proofs.Layouts.{apart}
 use Rattle.session.specs.declared.answer.Answer.{Answer as Given}
 use Rattle.session.specs.declared.place.Place.{Place}
 use Rattle.session.specs.declared.place.Place.the-variants.{At, Nowhere}
 use Rattle.session.specs.Calls.{Left, wrongMemory, refusedWith, Gives, settledIn}
-use Rattle.session.specs.Memory.{isMark, policyAt, size, decode}
+use Rattle.session.specs.Memory.{policyAt, size, decode}
 use Rattle.session.specs.Packets.{tagLength, wireLength, Effect, refuse, give, settled}
 use Rattle.session.specs.Places.{noRecord, placeFrom}
 use Rattle.session.specs.Records.{isFor, none, some, recordFor}
 use Rattle.session.specs.Session.{Session}
-use Rattle.session.proofs.Memory.{made, policy-is, unmade-nowhere}
+use Rattle.session.proofs.Memory.{made, policy-is, placed-made}
 use Rattle.session.proofs.Places.{first-here, nowhere, stored-there}
 use Rattle.session.proofs.Ways.{inBy, readBy, callBy, effect-is, call-is, outcome-is}
 use Rattle.front.specs.declared.open.Opened.{Opened}
@@ -67,20 +66,12 @@ module _ (words buf : List ℕ) (n : ℕ) where
     its-left (refuse r) = refused-left way r
     its-left (give m after t) = rw (here, stored-there (s .records) x way i here t)
 
-    -- a session with a record is made
-    is-made : isMark (word words 0) ≡ true
-    is-made = go (isMark (word words 0)) refl
-      where
-        go : (b : Bool) → isMark (word words 0) ≡ b → isMark (word words 0) ≡ true
-        go true e = e
-        go false e = apart (let z = unmade-nowhere words e x way in cc)
-
     its-effect : inBy (s .setup) buf n way (some (getD (s .records) i noRecord)) ≡ effectAt way words i buf n
     its-effect = go way
       where
         go : (v : Way) → inBy (s .setup) buf n v (some (getD (s .records) i noRecord)) ≡ effectAt v words i buf n
-        go Sending = rw (sym (policy-is words), made words is-made)
-        go Receiving = rw (sym (policy-is words), made words is-made)
+        go Sending = rw (sym (policy-is words), made words (placed-made words x way i here))
+        go Receiving = rw (sym (policy-is words), made words (placed-made words x way i here))
 
   -- ---- what the front answered
 
