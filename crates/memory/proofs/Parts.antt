@@ -49,6 +49,36 @@ with-length a p words h =
     simp length-append (omega (arith, length-take-le a words (omega arith), length-drop (a + length p) words))
 
 -- read back
+-- two parts, one before the other, in either order
+module _ (a : ℕ) (p : List ℕ) where
+  whole-with : (words : List ℕ) → withPart a p words ≡ (take a words ++ p) ++ drop (a + length p) words
+  whole-with words = sym (append-assoc (take a words) p (drop (a + length p) words))
+
+  with-front : (words : List ℕ) → a ≤ length words → length (take a words ++ p) ≡ a + length p
+  with-front words h = length-append (take a words) p ∙ ap (λ (k : ℕ). k + length p) (length-take-le a words h)
+
+  take-past : (words : List ℕ) → a ≤ length words → take (a + length p) (withPart a p words) ≡ take a words ++ p
+  take-past words h = ap (take (a + length p)) (whole-with words) ∙ take-at (take a words ++ p) (drop (a + length p) words) (a + length p) (with-front words h)
+
+  drop-past : (words : List ℕ) → a ≤ length words → drop (a + length p) (withPart a p words) ≡ drop (a + length p) words
+  drop-past words h = ap (drop (a + length p)) (whole-with words) ∙ drop-at (take a words ++ p) (drop (a + length p) words) (a + length p) (with-front words h)
+
+  pub parts-apart : (b : ℕ) (q words : List ℕ) → a + length p ≤ b → b + length q ≤ length words → withPart a p (withPart b q words) ≡ withPart b q (withPart a p words)
+  parts-apart b q words h i =
+      let n : ℕ = a + length p in
+      let k : ℕ = b - n in
+      let z : n + k ≡ b = omega arith in
+      let l : length (withPart b q words) ≡ length words = with-length b q words i in
+      let m : length (withPart a p words) ≡ length words = with-length a p words (omega arith) in
+      let past : (l : List ℕ) → b ≤ length l → drop n (withPart b q l) ≡ withPart k q (drop n l)
+      = λ l g. ap (λ (c : ℕ). drop n (withPart c q l)) (sym z) ∙ drop-with n k q l (omega arith) in
+      sym (take-append-drop n (withPart a p (withPart b q words)))
+      ∙ ap₂ (λ (u v : List ℕ). u ++ v)
+      (take-past (withPart b q words) (omega arith) ∙ ap (λ (u : List ℕ). u ++ p) (take-with a b q words (omega arith) (omega arith))
+      ∙ sym (take-past words (omega arith)) ∙ sym (take-with n b q (withPart a p words) (omega arith) (omega arith)))
+      (drop-past (withPart b q words) (omega arith) ∙ past words (omega arith) ∙ ap (withPart k q) (sym (drop-past words (omega arith))) ∙ sym (past (withPart a p words) (omega arith)))
+      ∙ take-append-drop n (withPart b q (withPart a p words))
+
 pub read-back : (a n : ℕ) (p words : List ℕ) → a ≤ length words → length p ≡ n → partAt a n (withPart a p words) ≡ p
 read-back a n p words h e =
     ap (take n) (drop-at (take a words) (p ++ drop (a + length p) words) a (length-take-le a words h)) ∙ take-at p (drop (a + length p) words) n e

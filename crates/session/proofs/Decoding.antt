@@ -3,15 +3,16 @@ use mathlib.Core.Path.{_≡_, refl, sym, ap, _∙_}
 use mathlib.Core.Bool.{Bool, true, false}
 use mathlib.Core.List.{List}
 use Prim.Native.Nat.{ℕ, _+_, _^_, _≤_, _<_}
+use native.Mathlib.Decide.{decLt}
 use native.Mathlib.Omega.{arith}
 use borrow.Author.Tests.{eq-eqb, ne-eqb}
 use lib.ListN.{length, getD, set, take}
 use Rattle.bits.specs.Refusals.{numberOf}
-use Rattle.bits.specs.declared.refusal.Refusal.the-variants as refusal
+use Rattle.bits.specs.declared.refusal.Refusal.{Refusal}
 use Rattle.bits.proofs.Refusals.{above-zero}
 use Rattle.memory.specs.Parts.{withPart, placeIn}
 use Rattle.memory.specs.Words.{word}
-use Rattle.memory.proofs.Parts.{with-length, field-word, cut-before}
+use Rattle.memory.proofs.Parts.{with-length, parts-apart, field-word, cut-before}
 use Rattle.rtp_header.specs.Header.{ssrcOf}
 use Rattle.policies.specs.declared.policy.Way.{Way}
 use Rattle.policies.proofs.Layouts.{apart}
@@ -82,11 +83,28 @@ pub record Holds (l : Left) (s : Session) : Type 0 where
   pub session : decode (l .words) ≡ s
   pub long : length (l .words) ≡ size
 
+abbrev pub placedBy : List ℕ → Place → Effect → List ℕ
+placedBy words Nowhere e = words
+placedBy words (At i) (refuse r) = words
+placedBy words (At i) (give m after t) = withReplayAt words i t
+
+pub refused-there : (words : List ℕ) (p : Place) (r : Refusal) → placedBy words p (refuse r) ≡ words
+refused-there words Nowhere r = refl
+refused-there words (At i) r = refl
+
 module _ (words : List ℕ) (sized : length words ≡ size) (buf : List ℕ) (x : ℕ) (way : Way) where
-  found-in : (i : ℕ) → placeFrom 0 (decode words .records) x way ≡ At i → i < 32
+  pub found-in : (i : ℕ) → placeFrom 0 (decode words .records) x way ≡ At i → i < 32
   found-in i e =
       let n : length (decode words .records) ≡ 32 = ap (λ (s : Session). length (s .records)) (made words (placed-made words x way i e)) ∙ records-length words in
       omega (arith, first-here (λ r. isFor r x way) (decode words .records) i e .inside)
+
+  -- the words after an effect: the replay state at the record's place
+  settled-words : (p : Place) → placeFrom 0 (decode words .records) x way ≡ p → (e : Effect)
+      → settledIn words x way (settled (decode words) buf x way e) .words ≡ placedBy words p e
+  settled-words Nowhere h (refuse r) = rw (ne-eqb (numberOf r) 0 (λ z. omega (arith, above-zero r)))
+  settled-words (At i) h (refuse r) = rw (ne-eqb (numberOf r) 0 (λ z. omega (arith, above-zero r)))
+  settled-words Nowhere h (give m after t) = rw h
+  settled-words (At i) h (give m after t) = rw (h, stored-there (decode words .records) x way i h t)
 
   settled-holds : (e : Effect) → EffectFits e → Holds (settledIn words x way (settled (decode words) buf x way e)) (settled (decode words) buf x way e .session)
   settled-holds (refuse r) f = rw (ne-eqb (numberOf r) 0 (λ z. omega (arith, above-zero r))) (record { session = refl; long = sized })
@@ -117,12 +135,17 @@ module _ (words : List ℕ) (sized : length words ≡ size) (buf : List ℕ) (n 
   pub call-answers : (way : Way) → callBy way words buf n .answer ≡ outcomeBy way (decode words) buf n .answer
   call-answers way = ap (λ (l : Left). l .answer) (sized-call way)
 
+  pub call-words : (way : Way) → callBy way words buf n .words
+      ≡ placedBy words (placeFrom 0 (decode words .records) (ssrcOf (take n buf)) way) (doneBy way (decode words) buf n)
+  call-words way = ap (λ (l : Left). l .words) (sized-call way) ∙ rw (outcome-is way (decode words) buf n) (settled-words words sized buf (ssrcOf (take n buf)) way _ refl (doneBy way (decode words) buf n))
+
+  pub done-fits : (way : Way) → EffectFits (doneBy way (decode words) buf n)
+  done-fits way = effect-fits (decode words .setup) buf n way (recordFor (decode words .records) (ssrcOf (take n buf)) way) (found-fits words sized (ssrcOf (take n buf)) way)
+
   pub call-holds : (way : Way) → Holds (callBy way words buf n) (outcomeBy way (decode words) buf n .session)
   call-holds way =
-      let x : ℕ = ssrcOf (take n buf) in
       rw (sized-call way, outcome-is way (decode words) buf n)
-      (settled-holds words sized buf x way (doneBy way (decode words) buf n)
-      (effect-fits (decode words .setup) buf n way (recordFor (decode words .records) x way) (found-fits words sized x way)))
+      (settled-holds words sized buf (ssrcOf (take n buf)) way (doneBy way (decode words) buf n) (done-fits way))
 
 -- ---- add
 
@@ -159,3 +182,16 @@ module _ (words : List ℕ) (sized : length words ≡ size) (ssrc rollover : ℕ
       add-cases (decode words) ssrc way rollover (λ m. Holds (addedIn words new m) (m .session))
       (λ r n. rw (ne-eqb (numberOf r) 0 (λ z. omega (arith, above-zero r))) (record { session = refl; long = sized }))
       (λ m h f. placed-holds m f (freeFrom 0 (decode words .records)) refl)
+
+-- ---- two records
+
+-- replay states at two places, in either order
+pub places-apart : (words : List ℕ) → length words ≡ size → (i j : ℕ) → i < 32 → j < 32 → (i ≡ j → ⊥) → (t u : ReplayState) → Blocks blocks t → Blocks blocks u
+    → withReplayAt (withReplayAt words i t) j u ≡ withReplayAt (withReplayAt words j u) i t
+places-apart words sized i j hi hj differ t u f g =
+    let m = state-length blocks t f in
+    let n = state-length blocks u g in
+    elim (decLt i j) [
+      | yes l ↦ sym (parts-apart (recordPlace i + placeIn recordLayout theReplay) (stateWords t) (recordPlace j + placeIn recordLayout theReplay) (stateWords u) words (omega arith) (omega arith))
+      | no l ↦ parts-apart (recordPlace j + placeIn recordLayout theReplay) (stateWords u) (recordPlace i + placeIn recordLayout theReplay) (stateWords t) words (omega (arith, differ)) (omega arith)
+    ]

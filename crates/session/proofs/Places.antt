@@ -56,6 +56,7 @@ module _ (test : Record → Bool) where
     place : ℕ
     counted : i ≡ k + place
     inside : place < length l
+    passes : test (getD l place noRecord) ≡ true
     found : firstIn test l ≡ some (getD l place noRecord)
     changed : (f : Record → Record) → changeFirst test f l ≡ set l place (f (getD l place noRecord))
 
@@ -63,13 +64,14 @@ module _ (test : Record → Bool) where
       → pick b (At k) (firstFrom test (suc k) l) ≡ At i → FirstAt k (q ∷ l) i
   at-step k q l i true h rec e =
       let z : k ≡ i = cc in
-      record { place = 0; counted = omega arith; inside = omega arith; found = rw h; changed = λ f. rw h }
+      record { place = 0; counted = omega arith; inside = omega arith; passes = h; found = rw h; changed = λ f. rw h }
   at-step k q l i false h rec e =
       let p = rec e in
       record {
         place = suc (p .place);
         counted = omega (arith, p .counted);
         inside = omega (arith, p .inside);
+        passes = p .passes;
         found = rw h (p .found);
         changed = λ f. rw h (ap (λ (r : List Record). q ∷ r) (p .changed f));
       }
@@ -80,6 +82,7 @@ module _ (test : Record → Bool) where
 
   pub record First (l : List Record) (i : ℕ) : Type 0 where
     pub inside : i < length l
+    pub passes : test (getD l i noRecord) ≡ true
     pub found : firstIn test l ≡ some (getD l i noRecord)
     pub changed : (f : Record → Record) → changeFirst test f l ≡ set l i (f (getD l i noRecord))
 
@@ -87,7 +90,7 @@ module _ (test : Record → Bool) where
   first-here l i e =
       let p = first-at 0 l i e in
       let q : i ≡ p .place = omega (arith, p .counted) in
-      rw q (record { inside = p .inside; found = p .found; changed = p .changed })
+      rw q (record { inside = p .inside; passes = p .passes; found = p .found; changed = p .changed })
 
   -- or there is none
   pub record NoFirst (l : List Record) : Type 0 where
@@ -103,6 +106,16 @@ module _ (test : Record → Bool) where
       go false h rec e = let p = rec e in record { found = rw h (p .found); changed = λ f. rw h (ap (λ (r : List Record). q ∷ r) (p .changed f)) }
 
 -- ---- the record of a stream
+
+-- no replay state moves a record
+pub place-kept : (x y : ℕ) (w v : Way) (t : ReplayState) (k : ℕ) (l : List Record) → placeFrom k (storeFor l x w t) y v ≡ placeFrom k l y v
+place-kept x y w v t k [] = refl
+place-kept x y w v t k (q ∷ l) = go (isFor q x w) (place-kept x y w v t (suc k) l)
+  where
+    go : (b : Bool) → placeFrom (suc k) (storeFor l x w t) y v ≡ placeFrom (suc k) l y v
+        → placeFrom k (pick b (withReplay q t ∷ l) (q ∷ storeFor l x w t)) y v ≡ placeFrom k (q ∷ l) y v
+    go true rec = refl
+    go false rec = rw rec
 
 -- stored at its place, the replay state is read there
 pub stored-there : (l : List Record) (x : ℕ) (w : Way) (i : ℕ) → placeFrom 0 l x w ≡ At i → (t : ReplayState) → getD (storeFor l x w t) i noRecord .replay ≡ t

@@ -25,18 +25,18 @@ use Rattle.theorems.proofs.Holding.{setup-next}
 
 -- ---- a packet call as its buffer and its effect
 
-abbrev sizeIn : Call → ℕ
+abbrev pub sizeIn : Call → ℕ
 sizeIn (add e x w r) = 0
 sizeIn (protect e buf n) = n
 sizeIn (unprotect e buf n) = n
 
-abbrev effectIn : Setup → Call → Found → Effect
+abbrev pub effectIn : Setup → Call → Found → Effect
 effectIn h c = effectBy h (bufferOf c) (sizeIn c) (wayIn c)
 
-abbrev effectOf : Session → Call → Effect
+abbrev pub effectOf : Session → Call → Effect
 effectOf s c = effectIn (s .setup) c (recordFor (s .records) (ssrcIn c) (wayIn c))
 
-packet-call : (s : Session) (c : Call) → IsPacketCall c → outcomeOf s c ≡ settled s (bufferOf c) (ssrcIn c) (wayIn c) (effectOf s c)
+pub packet-call : (s : Session) (c : Call) → IsPacketCall c → outcomeOf s c ≡ settled s (bufferOf c) (ssrcIn c) (wayIn c) (effectOf s c)
 packet-call s (add e x w r) k = absurd k
 packet-call s (protect e buf n) k = outcome-is Sending s buf n
 packet-call s (unprotect e buf n) k = outcome-is Receiving s buf n
@@ -47,7 +47,7 @@ module _ (s : Session) (c d : Call) (kc : IsPacketCall c) (kd : IsPacketCall d) 
   abbrev first : Outcome
   first = settled s (bufferOf c) (ssrcIn c) (wayIn c) (effectOf s c)
 
-  effect-kept : effectOf (first .session) d ≡ effectOf s d
+  pub effect-kept : effectOf (first .session) d ≡ effectOf s d
   effect-kept =
       rw (setup-settled s (bufferOf c) (ssrcIn c) (wayIn c) (effectOf s c), found-settled (ssrcIn c) (ssrcIn d) (wayIn c) (wayIn d) differ s (bufferOf c) (effectOf s c))
 
@@ -111,7 +111,7 @@ late-read : (s : Session) (buf : List ℕ) (x : ℕ) (way : Way) (d : Effect) �
 late-read s buf x way (refuse r) l a = ⊎-elim (λ z. clash _ (rw z at l) (not-late way .0)) (λ z. clash _ (rw z at l) (not-late way .1)) a
 late-read s buf x way (give m b t) l a = ⊎-elim (λ z. omega arith) (λ z. omega arith) a
 
-unread-early : (s : Session) (c : Call) → IsPacketCall c → LengthOrShort (outcomeOf s c .answer) → Early (effectIn (s .setup) c)
+pub unread-early : (s : Session) (c : Call) → IsPacketCall c → LengthOrShort (outcomeOf s c .answer) → Early (effectIn (s .setup) c)
 unread-early s c k a = go (timing (s .setup) (bufferOf c) (sizeIn c) (wayIn c))
   where
     go : Timing (lateNumbers (wayIn c)) (effectIn (s .setup) c) → Early (effectIn (s .setup) c)
@@ -149,7 +149,7 @@ flipped : (s : Sessions) (c d : Call) → Commute s d c → Commute s c d
 flipped s c d o = record { sessions = sym (o .sessions); left = o .right; right = o .left }
 
 -- d is refused after c, so it is refused before
-second-early : (s : Sessions) (c d : Call) → IsPacketCall d → LengthOrShort (answerOf (next s c) d) → Early (effectIn (sessionAt (endOf d) s .setup) d)
+pub second-early : (s : Sessions) (c d : Call) → IsPacketCall d → LengthOrShort (answerOf (next s c) d) → Early (effectIn (sessionAt (endOf d) s .setup) d)
 second-early s c d k a = rw (setup-next (endOf d) s c) at (unread-early (sessionAt (endOf d) (next s c)) d k a)
 
 commute : (s : Sessions) (c d : Call) → IsPacketCall c → IsPacketCall d → DifferentStreams c (answerOf s c) d (answerOf (next s c) d) → Commute s c d
@@ -163,17 +163,17 @@ commute s c d kc kd a =
 
 -- ---- along the list
 
-record Neighbours (u v : Event) : Type 0 where
-  first : IsPacketCall (callIn u)
-  second : IsPacketCall (callIn v)
-  differ : DifferentStreams (callIn u) (answerIn u) (callIn v) (answerIn v)
+pub record Neighbours (u v : Event) : Type 0 where
+  pub first : IsPacketCall (callIn u)
+  pub second : IsPacketCall (callIn v)
+  pub differ : DifferentStreams (callIn u) (answerIn u) (callIn v) (answerIn v)
 
 along : (k : ℕ) (calls : List Call) (s : Sessions) → Neighbours (getD (eventsOf s calls) k noEvent) (getD (eventsOf s calls) (suc k) noEvent)
-    → run s (exchanged k calls) ≡ record { events = exchanged k (eventsOf s calls); sessions = after s calls }
+    → run s (exchanged k calls) ≡ record { events = exchanged k (eventsOf s calls); left = after s calls }
 along k [] s o = absurd (o .first)
 along zero (c ∷ []) s o = absurd (o .second)
 along zero (c ∷ d ∷ calls) s o = let q = commute s c d (o .first) (o .second) (o .differ) in rw (q .left, q .right, q .sessions)
-along (suc k) (c ∷ calls) s o = ap (λ (r : Run). record { events = event c (answerOf s c) ∷ r .events; sessions = r .sessions }) (along k calls (next s c) o)
+along (suc k) (c ∷ calls) s o = ap (λ (r : Run Sessions). record { events = event c (answerOf s c) ∷ r .events; left = r .left }) (along k calls (next s c) o)
 
 pub exchange : (s : Sessions) (calls : List Call) → NeighboursChangePlaces (run s) calls
 exchange s calls k c d a b e f kc kd differ = along k calls s (rw (e, f) (record { first = kc; second = kd; differ = differ }))

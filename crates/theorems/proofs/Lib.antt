@@ -10,4 +10,5 @@ pub mod Answering
 pub mod Keeping
 pub mod Meeting
 pub mod Memories
+pub mod Words
 pub mod DemandThree

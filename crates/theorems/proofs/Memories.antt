@@ -14,7 +14,7 @@ use Rattle.session.specs.Calls.{addCall}
 use Rattle.session.specs.Memory.{size, decode}
 use Rattle.session.proofs.Decoding.{Holds, call-answers, call-holds, added-holds}
 use Rattle.theorems.specs.Lists.{End, sender, receiver, Call, add, protect, unprotect, endOf, Sessions, sessionAt, withSession, addOutcome, outcomeOf, answerOf, next, event, Run, run}
-use Rattle.theorems.specs.Memories.{Memories, memoryAt, withMemory, wayNumber, leftBy, nextIn, decoded, runIn, Sized, Words32, AnswersAsSessions}
+use Rattle.theorems.specs.Memories.{Memories, memoryAt, withMemory, wayNumber, leftBy, nextIn, decoded, runIn, held, Sized, Words32, AnswersAsSessions}
 
 -- ---- one call
 
@@ -34,14 +34,14 @@ module _ (words : List ℕ) (sized : length words ≡ size) where
   add-holds ssrc rollover e Sending w = rw (eq-eqb (length words) size sized) (added-holds words sized ssrc rollover (w .0) (w .1) Sending)
   add-holds ssrc rollover e Receiving w = rw (eq-eqb (length words) size sized) (added-holds words sized ssrc rollover (w .0) (w .1) Receiving)
 
-  holds : (c : Call) → Words32 c → Holds (leftBy words c) (outcomeOf (decode words) c .session)
+  pub holds : (c : Call) → Words32 c → Holds (leftBy words c) (outcomeOf (decode words) c .session)
   holds (add e ssrc way rollover) w = add-holds ssrc rollover e way w
   holds (protect e buf n) w = call-holds words sized buf n Sending
   holds (unprotect e buf n) w = call-holds words sized buf n Receiving
 
 -- ---- on two memories
 
-at-end : (e : End) (m : Memories) → decode (memoryAt e m) ≡ sessionAt e (decoded m)
+pub at-end : (e : End) (m : Memories) → decode (memoryAt e m) ≡ sessionAt e (decoded m)
 at-end sender m = refl
 at-end receiver m = refl
 
@@ -49,7 +49,7 @@ with-end : (e : End) (m : Memories) (words : List ℕ) → decoded (withMemory e
 with-end sender m words = refl
 with-end receiver m words = refl
 
-sized-at : (e : End) (m : Memories) → Sized m → length (memoryAt e m) ≡ size
+pub sized-at : (e : End) (m : Memories) → Sized m → length (memoryAt e m) ≡ size
 sized-at sender m s = s .atSender
 sized-at receiver m s = s .atReceiver
 
@@ -61,10 +61,10 @@ module _ (m : Memories) (s : Sized m) (c : Call) (w : Words32 c) where
   after-call : Holds (leftBy (memoryAt (endOf c) m) c) (outcomeOf (decode (memoryAt (endOf c) m)) c .session)
   after-call = holds (memoryAt (endOf c) m) (sized-at (endOf c) m s) c w
 
-  next-sized : Sized (nextIn m c)
+  pub next-sized : Sized (nextIn m c)
   next-sized = sized-with (endOf c) m (leftBy (memoryAt (endOf c) m) c .words) s (after-call .long)
 
-  next-decoded : decoded (nextIn m c) ≡ next (decoded m) c
+  pub next-decoded : decoded (nextIn m c) ≡ next (decoded m) c
   next-decoded =
       with-end (endOf c) m (leftBy (memoryAt (endOf c) m) c .words)
       ∙ ap (withSession (endOf c) (decoded m)) (after-call .session ∙ ap (λ (t : Session). outcomeOf t c .session) (at-end (endOf c) m))
@@ -74,10 +74,10 @@ module _ (m : Memories) (s : Sized m) (c : Call) (w : Words32 c) where
 
 -- ---- the claim
 
-same-run : (m : Memories) → Sized m → (calls : List Call) → Each Words32 calls → runIn m calls ≡ run (decoded m) calls
+same-run : (m : Memories) → Sized m → (calls : List Call) → Each Words32 calls → held (runIn m calls) ≡ run (decoded m) calls
 same-run m s [] w = refl
 same-run m s (c ∷ calls) w =
-    ap₂ (λ (a : Answer) (r : Run). record { events = event c a ∷ r .events; sessions = r .sessions }) (same-answer m s c (w .0))
+    ap₂ (λ (a : Answer) (r : Run Sessions). record { events = event c a ∷ r .events; left = r .left }) (same-answer m s c (w .0))
     (same-run (nextIn m c) (next-sized m s c (w .0)) calls (w .1) ∙ ap (λ (t : Sessions). run t calls) (next-decoded m s c (w .0)))
 
 pub answer-as-sessions : AnswersAsSessions

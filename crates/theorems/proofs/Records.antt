@@ -89,7 +89,7 @@ module _ (x : ℕ) (w : Way) (t : ReplayState) where
   found-stored (q ∷ l) r e = same-step q l r (isFor q x w) refl (found-stored l r) e
 
 module _ (x y : ℕ) (w v : Way) (differ : w ≡ v → x ≡ y → ⊥) where
-  other : (r : Record) → isFor r x w ≡ true → isFor r y v ≡ false
+  pub other : (r : Record) → isFor r x w ≡ true → isFor r y v ≡ false
   other r e =
       let p : eqb (r .ssrc) x ≡ true = and-left (eqb (r .ssrc) x) (hasWay (r .kind) w) e in
       let q : hasWay (r .kind) w ≡ true = and-right (eqb (r .ssrc) x) (hasWay (r .kind) w) e in

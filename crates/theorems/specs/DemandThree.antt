@@ -8,8 +8,8 @@ use Rattle.theorems.specs.Arrivals.{ArrivalsFollowTheLedger}
 use Rattle.theorems.specs.Places.{NeighboursChangePlaces}
 use Rattle.theorems.specs.Memories.{Memories, decoded, runIn, Sized, Words32}
 
--- The two halves, in this list of calls; `runs` gives the events of any list from the same start, and both sessions afterwards.
-pub record BothHalves (policy : ℕ) (runs : List Call → Run) (calls : List Call) : Type 0 where
+-- The two halves, in this list of calls; `runs` gives the events of any list from the same start, and what is left: sessions, or the words of memories.
+pub record BothHalves {S : Type 0} (policy : ℕ) (runs : List Call → Run S) (calls : List Call) : Type 0 where
   -- each packet of a stream that arrives is given back right, or refused as old or repeated, as the ledger says
   pub ledger : Each Bytes calls → ArrivalsFollowTheLedger policy (runs calls .events)
   -- two neighbouring packet calls for different streams can change places; this needs no premise

@@ -91,13 +91,13 @@ abbrev pub after : Sessions → List Call → Sessions
 after s [] = s
 after s (c ∷ calls) = after (next s c) calls
 
--- every answer, in order, and both sessions afterwards
-pub record Run : Type 0 where
+-- every answer, in order, and what is left: both sessions, or the memories that hold them
+pub record Run (S : Type 0) : Type 0 where
   pub events : List Event
-  pub sessions : Sessions
+  pub left : S
 
-abbrev pub run : Sessions → List Call → Run
-run s calls = record { events = eventsOf s calls; sessions = after s calls }
+abbrev pub run : Sessions → List Call → Run Sessions
+run s calls = record { events = eventsOf s calls; left = after s calls }
 
 -- What is handed to protect is bytes. Definitions speak of numbers, so this has to be said; the code's types say it.
 abbrev pub Bytes : Call → Type 0

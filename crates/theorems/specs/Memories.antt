@@ -50,9 +50,12 @@ afterIn m (c ∷ calls) = afterIn (nextIn m c) calls
 abbrev pub decoded : Memories → Sessions
 decoded m = record { atSender = decode (m .atSender); atReceiver = decode (m .atReceiver) }
 
--- every answer, in order, and the sessions that both memories hold afterwards
-abbrev pub runIn : Memories → List Call → Run
-runIn m calls = record { events = eventsIn m calls; sessions = decoded (afterIn m calls) }
+abbrev pub runIn : Memories → List Call → Run Memories
+runIn m calls = record { events = eventsIn m calls; left = afterIn m calls }
+
+-- a run on memories as one on the sessions that they hold
+abbrev pub held : Run Memories → Run Sessions
+held r = record { events = r .events; left = decoded (r .left) }
 
 -- ---- the claim
 
@@ -68,4 +71,4 @@ Words32 (unprotect e buf n) = Unit {0}
 
 -- For any two memories, whatever they hold: every answer, and both sessions afterwards.
 unfoldable pub AnswersAsSessions : Type 0
-AnswersAsSessions = (m : Memories) → Sized m → (calls : List Call) → Each Words32 calls → runIn m calls ≡ run (decoded m) calls
+AnswersAsSessions = (m : Memories) → Sized m → (calls : List Call) → Each Words32 calls → held (runIn m calls) ≡ run (decoded m) calls

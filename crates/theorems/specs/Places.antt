@@ -42,12 +42,12 @@ exchanged zero (a ∷ []) = a ∷ []
 exchanged zero (a ∷ b ∷ l) = b ∷ a ∷ l
 exchanged (suc k) (a ∷ l) = a ∷ exchanged k l
 
--- In this list of calls, of which `runs` gives the events and the sessions afterwards: calls k and k + 1 can change places. Each call, later ones included,
--- then has the same answer and leaves the same buffer, and both sessions come out the same.
-abbrev pub NeighboursChangePlaces : (List Call → Run) → List Call → Type 0
+-- In this list of calls, of which `runs` gives the events and what is left: calls k and k + 1 can change places. Each call, later ones included, then has the
+-- same answer and leaves the same buffer, and both sessions, or the words of both memories, come out the same.
+abbrev pub NeighboursChangePlaces : {S : Type 0} → (List Call → Run S) → List Call → Type 0
 NeighboursChangePlaces runs calls =
     (k : ℕ) (c d : Call) (a b : Answer)
     → getD (runs calls .events) k noEvent ≡ event c a
     → getD (runs calls .events) (suc k) noEvent ≡ event d b
     → IsPacketCall c → IsPacketCall d → DifferentStreams c a d b
-    → runs (exchanged k calls) ≡ record { events = exchanged k (runs calls .events); sessions = runs calls .sessions }
+    → runs (exchanged k calls) ≡ record { events = exchanged k (runs calls .events); left = runs calls .left }
