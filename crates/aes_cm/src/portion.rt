@@ -36,6 +36,10 @@ fn portion_by(
         block: [0u8; 16],
         at: 0,
     };
+    if first == stop {
+        xor_stretch(sbox, table, keys, start, buf, rest, n, s);
+        return;
+    }
     let t = xor_stretch(sbox, table, keys, start, buf, first, stop, s);
     xor_stretch(sbox, table, keys, start, buf, rest, n, t);
 }
