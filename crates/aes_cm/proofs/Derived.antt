@@ -6,6 +6,7 @@ use lib.Bits.{xor-zero-l}
 use lib.ListN.{length, replicate}
 use Rattle.bits.specs.Lists.{tabulate}
 use Rattle.bits.specs.Xor.{xorPad}
+use Rattle.bits.proofs.Lists.{length-tabulate}
 use Rattle.bits.proofs.Xor.{pad-ext}
 use Rattle.aes_cm.specs.declared.derivation.SessionKeys.{SessionKeys}
 use Rattle.aes_counter.specs.Keystream.{keystreamOf}
@@ -23,6 +24,10 @@ unfolding derivedOf
 derived-is key salt label l m z e =
     let stream = keystreamOf key (saltFor salt label) 0 0 in
     e ∙ pad-ext (portionPad 0 0 0 stream) stream l (λ i b. whole stream i) ∙ ap (xorPad stream) z ∙ onto-zeros (length l) stream
+
+pub derived-length : (key salt : List ℕ) (label n : ℕ) → length (derivedOf key salt label n) ≡ n
+unfolding derivedOf
+derived-length key salt label n = length-tabulate n (keystreamOf key (saltFor salt label) 0 0)
 
 pub five : {a b c d e p q r s t : List ℕ} → a ≡ p → b ≡ q → c ≡ r → d ≡ s → e ≡ t
     → _≡_ {A = SessionKeys} (record { cipher = a; auth = b; salt = c; «header_cipher» = d; «header_salt» = e })

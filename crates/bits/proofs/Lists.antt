@@ -13,6 +13,10 @@ tabulated d zero (x ∷ l) e = absurd (omega arith)
 tabulated d (suc n) [] e = absurd (omega arith)
 tabulated d (suc n) (x ∷ l) e = ap (λ (r : List _). x ∷ r) (tabulated d n l (omega arith))
 
+pub length-tabulate : {A : Type 0} (n : ℕ) (f : ℕ → A) → length (tabulate n f) ≡ n
+length-tabulate zero f = refl
+length-tabulate (suc n) f = ap suc (length-tabulate n (λ i. f (suc i)))
+
 -- only the first n elements count
 pub tabulate-ext : {A : Type 0} (n : ℕ) (f g : ℕ → A) → ((i : ℕ) → i < n → f i ≡ g i) → tabulate n f ≡ tabulate n g
 tabulate-ext zero f g h = refl

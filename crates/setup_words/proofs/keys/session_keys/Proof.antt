@@ -3,7 +3,7 @@ use mathlib.Core.Path.{_≡_}
 use native.Mathlib.Omega.{arith}
 use borrow.Author.Needs.{needs}
 use lib.ListN.{length}
-use Rattle.aes_cm.specs.Derivation.{derivedOf}
+use Rattle.aes_cm.proofs.Derived.{derived-length}
 use Rattle.setup_words.proofs.keys.session_keys.Statement.{statement}
 use Rattle.setup_words.proofs.keys.session_keys.Tie as tie
 
@@ -16,7 +16,7 @@ slice-aggregate-key-states c = search needs
 key-states-requires : tie.Need-key-states-requires
 key-states-requires c κs =
     let d = c .before .before .before .before .before .before in
-    let e : length (d .derive .result .auth) ≡ 20 = unfold derivedOf in rw (d .derive .ensures) in
+    let e : length (d .derive .result .auth) ≡ 20 = rw (d .derive .ensures) (derived-length (d .before .args .key) (d .before .args .salt) 1 20) in
     omega arith
 
 returns : tie.Need-returns
