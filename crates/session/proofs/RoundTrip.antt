@@ -18,6 +18,7 @@ use Rattle.session.specs.Session.{Record, Setup, Session}
 use Rattle.session.specs.Making.{policyOf, unmade, sessionOf}
 use Rattle.session.specs.Memory.{each, recordWords, recordAt, setupLayout, mark, isMark, setupFields, setupFrom, front, size, recordsWords, encode, recordsIn, setupAt, decode}
 use Rattle.session.specs.RoundTrip.{SetupFits, RecordFits, Fits, SessionsLast}
+use Rattle.session.proofs.Memory.{not-made}
 use Rattle.session.proofs.Records.{record-kept, record-length}
 
 -- ---- records
@@ -126,6 +127,7 @@ sessions-last =
     record {
       made = λ s m f. ap decode (encode-made s m) ∙ session-kept (s .setup) (fits-last (s .setup) (f .setup)) (s .records) m (f .places) (f .records);
       unmade = ap decode encode-unmade;
+      unmarked = not-made;
       long = λ s f. long s f (s .setup .made) refl;
     }
   where

@@ -1,16 +1,17 @@
--- A session that is written to memory and read back is the same.
+-- A session that is written to memory and read back is the same; memory that holds none is the unmade session.
 use mathlib.Core.Path.{_≡_}
-use mathlib.Core.Bool.{true}
-use Prim.Native.Nat.{_^_, _<_}
+use mathlib.Core.Bool.{true, false}
+use mathlib.Core.List.{List}
+use Prim.Native.Nat.{ℕ, _^_, _<_}
 use lib.ListN.{length}
 use Rattle.bits.specs.Lists.{Each}
-use Rattle.memory.specs.Words.{Array}
+use Rattle.memory.specs.Words.{word, Array}
 use Rattle.packet_cipher.specs.declared.keys.Keys.{Keys}
 use Rattle.replay.specs.Track.{Blocks}
 use Rattle.replay.specs.Window.{blocks}
 use Rattle.session.specs.Session.{Record, Setup, Session}
 use Rattle.session.specs.Making.{unmade, sessionOf}
-use Rattle.session.specs.Memory.{size, encode, decode}
+use Rattle.session.specs.Memory.{isMark, size, encode, decode}
 
 -- ---- the values that the code's types allow. Definitions speak of lists of numbers, so this has to be said.
 
@@ -42,6 +43,8 @@ pub record Fits (s : Session) : Type 0 where
 
 pub record SessionsLast : Type 0 where
   pub made : (s : Session) → s .setup .made ≡ true → Fits s → decode (encode s) ≡ s
+  -- without a mark nothing that stands in memory counts, a key that was left there neither
+  pub unmarked : (words : List ℕ) → isMark (word words 0) ≡ false → decode words ≡ sessionOf unmade
   pub unmade : decode (encode (sessionOf unmade)) ≡ sessionOf unmade
-  -- and it fills the memory that is asked for
+  -- a session fills the memory that is asked for
   pub long : (s : Session) → Fits s → length (encode s) ≡ size
