@@ -1,3 +1,3 @@
-// Published vectors of packets, each through the public calls and printed.
+// Vectors of packets, published or made by libsrtp, each through the public calls and printed.
 // Follows RFC 9335 (A.1), as `vectors` names it.
 pub mod packets;

@@ -1,4 +1,4 @@
-// Published test vectors, run through the proved code: of the files beside src/, `stdin` has the vectors and `stdout` what was published.
+// Published test vectors, and two packets of libsrtp's, through the proved code: `stdin` beside src/ has them, `stdout` what was published, or sent by it.
 // Follows FIPS 197 (appendices B and C.1), SP 800-38A (F.1.1), FIPS 180 (examples), RFC 2202 (section 3), RFC 3711 (B.2, B.3), RFC 6904 (A.1, A.2) and RFC 9335 (A.1).
 use cipher_vectors::ciphers;
 use cipher_vectors::hashes;
