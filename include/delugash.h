@@ -10,7 +10,7 @@
  *
  * What a call can rely on, and what it need not: any length, number, packet or session memory may be passed, also memory that was never made or was
  * overwritten: it then counts as a session without streams, or as whatever session it happens to hold, and no call reads or writes outside what it
- * was lent. A refusal changes nothing (a refused delugash_make leaves a session that takes no stream). The caller's duty is only this:
+ * was lent. A refusal changes nothing (but delugash_make refused with _KEYS or _POLICY leaves a session that takes no stream). The caller's duty is only this:
  *   - as much memory as its length says belongs to a pointer; where the length is 0, the pointer may be anything, NULL too;
  *   - memory that a call may write (session, buf) overlaps no other memory of the same call;
  *   - no two threads are in calls on the same session at the same time. Calls on different sessions share nothing.
@@ -69,7 +69,7 @@ enum {
     DELUGASH_STREAM = 9,    /* no stream for this SSRC and this way */
     DELUGASH_ORDER = 10,    /* protect: the sequence number does not go forward by 1 to 32,767 */
     DELUGASH_WORN = 11,     /* the 48-bit packet index is used up: make a session with new keys */
-    DELUGASH_OLD = 12,      /* unprotect: 64 or more behind the highest packet accepted */
+    DELUGASH_OLD = 12,      /* unprotect: 64 or more behind the highest packet accepted, or an index below 0 */
     DELUGASH_REPEAT = 13,   /* unprotect: accepted before */
     DELUGASH_TAG = 14,      /* unprotect: the authentication tag is wrong */
     DELUGASH_KEYS = 15,     /* make: key not 16 bytes or salt not 14; add: the session is not made */

@@ -28,7 +28,7 @@ pub enum Error {
     Order,
     /// 11: the packet's index would pass 2^48 - 1: the stream needs a new key.
     Worn,
-    /// 12: the packet is 64 or more behind the highest accepted, or before the first.
+    /// 12: the packet is 64 or more behind the highest accepted, or its index is below 0.
     Old,
     /// 13: the packet was given back before.
     Repeat,
