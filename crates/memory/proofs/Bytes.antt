@@ -13,7 +13,7 @@ use Rattle.bits.specs.Lists.{tabulate}
 use Rattle.bits.proofs.BigEndian.{to-from}
 use Rattle.bits.proofs.Bytes.{are-bytes, first-byte, other-bytes, cons-bytes}
 use Rattle.bits.proofs.Lists.{tabulated, tabulate-ext}
-use Rattle.memory.specs.Words.{word, halves, Array, Lasts16, Lasts14, Numbers5}
+use Rattle.memory.specs.Words.{word, halves, Array, Lasts, Numbers5}
 
 take-bytes : (n : ℕ) (l : List ℕ) → T (areBytes l) → T (areBytes (take n l))
 take-bytes zero l t = tt
@@ -28,21 +28,17 @@ drop-bytes (suc n) (x ∷ l) t = drop-bytes n l (other-bytes x l t)
 written : (n : ℕ) (l : List ℕ) → T (areBytes l) → length l ≡ n → toBytes n (fromBytes l) ≡ l
 written n l t e = ap (λ (k : ℕ). toBytes k (fromBytes l)) (sym e) ∙ to-from l t
 
--- eight bytes in the first word and n in the second
-bytes-kept : (n : ℕ) (l : List ℕ) → T (areBytes l) → length l ≡ 8 + n
-    → toBytes 8 (fromBytes (take 8 l)) ++ toBytes n (fromBytes (drop 8 l)) ≡ l
-bytes-kept n l t e =
-    let d : length (drop 8 l) ≡ n = length-drop 8 l ∙ omega arith in
-    ap₂ (λ (a b : List ℕ). a ++ b) (written 8 (take 8 l) (take-bytes 8 l t) (length-take-le 8 l (omega arith))) (written n (drop 8 l) (drop-bytes 8 l t) d)
+-- eight bytes in the first word and the others in the second
+kept : (n : ℕ) → 8 ≤ n → (l : List ℕ) → T (areBytes l) → length l ≡ n → Lasts n l
+kept n h l t e =
+    let d : length (drop 8 l) ≡ n - 8 = length-drop 8 l ∙ omega arith in
+    ap₂ (λ (a b : List ℕ). a ++ b) (written 8 (take 8 l) (take-bytes 8 l t) (length-take-le 8 l (omega arith))) (written (n - 8) (drop 8 l) (drop-bytes 8 l t) d)
     ∙ take-append-drop 8 l
 
 -- ---- arrays of the code's types
 
-pub sixteen-kept : (l : List ℕ) → Array 16 256 l → Lasts16 l
-sixteen-kept l a = bytes-kept 8 l (are-bytes l (a .small)) (a .long)
-
-pub fourteen-kept : (l : List ℕ) → Array 14 256 l → Lasts14 l
-fourteen-kept l a = bytes-kept 6 l (are-bytes l (a .small)) (a .long)
+pub bytes-kept : (n : ℕ) → 8 ≤ n → (l : List ℕ) → Array n 256 l → Lasts n l
+bytes-kept n h l a = kept n h l (are-bytes l (a .small)) (a .long)
 
 pub five-kept : (l : List ℕ) → Array 5 (2 ^ 32) l → Numbers5 l
 five-kept l a =
@@ -64,17 +60,18 @@ part-is at n l h =
 first-eight : (l : List ℕ) → 8 ≤ length l → fromBytes (tabulate 8 (λ i. getD l (0 + i) 0)) ≡ fromBytes (take 8 l)
 first-eight l h = ap fromBytes (part-is 0 8 l (omega arith))
 
-after-eight : (n : ℕ) (l : List ℕ) → length l ≡ 8 + n → fromBytes (tabulate n (λ i. getD l (8 + i) 0)) ≡ fromBytes (drop 8 l)
-after-eight n l e =
+after-eight : (n : ℕ) → 8 ≤ n → (l : List ℕ) → length l ≡ n → fromBytes (tabulate (n - 8) (λ i. getD l (8 + i) 0)) ≡ fromBytes (drop 8 l)
+after-eight n h l e =
     let d : length (drop 8 l) ≡ length l - 8 = length-drop 8 l in
-    ap fromBytes (part-is 8 n l (omega arith) ∙ take-all n (drop 8 l) (omega arith))
+    ap fromBytes (part-is 8 (n - 8) l (omega arith) ∙ take-all (n - 8) (drop 8 l) (omega arith))
 
--- two words read of 8 + n bytes are their halves, and the bytes come back from them
-pub halved : (n : ℕ) (l : List ℕ) → Array (8 + n) 256 l → (x y : ℕ) → x ≡ fromBytes (tabulate 8 (λ i. getD l (0 + i) 0)) → y ≡ fromBytes (tabulate n (λ i. getD l (8 + i) 0))
-    → ((x ∷ y ∷ []) ≡ halves l) × (toBytes 8 (word (halves l) 0) ++ toBytes n (word (halves l) 1) ≡ l)
-halved n l a x y ex ey = (
-  ap₂ (λ (h k : ℕ). h ∷ k ∷ []) (ex ∙ first-eight l (omega (arith, a .long))) (ey ∙ after-eight n l (a .long)),
-  bytes-kept n l (are-bytes l (a .small)) (a .long),
+-- two words read of n bytes are their halves, and the bytes come back from them
+pub halved : (n : ℕ) → 8 ≤ n → (l : List ℕ) → Array n 256 l
+    → (x y : ℕ) → x ≡ fromBytes (tabulate 8 (λ i. getD l (0 + i) 0)) → y ≡ fromBytes (tabulate (n - 8) (λ i. getD l (8 + i) 0))
+    → ((x ∷ y ∷ []) ≡ halves l) × Lasts n l
+halved n h l a x y ex ey = (
+  ap₂ (λ (i k : ℕ). i ∷ k ∷ []) (ex ∙ first-eight l (omega (arith, a .long))) (ey ∙ after-eight n h l (a .long)),
+  bytes-kept n h l a,
 )
 
 -- two zeros in front count nothing

@@ -1,7 +1,7 @@
 -- Bytes and 32-bit numbers in 64-bit words.
 use mathlib.Core.Path.{_≡_}
 use mathlib.Core.List.{List, [], _∷_, _++_}
-use Prim.Native.Nat.{ℕ, _%_, _^_, _<_}
+use Prim.Native.Nat.{ℕ, _-_, _%_, _^_, _<_}
 use lib.ListN.{length, getD, take, drop}
 use Rattle.bits.specs.BigEndian.{toBytes, fromBytes}
 
@@ -11,12 +11,9 @@ word words i = getD words i 0
 
 -- ---- bytes: eight to a word, the first one highest
 
--- 16 bytes are two words; of 14 the second word has six
-abbrev pub sixteen : ℕ → ℕ → List ℕ
-sixteen a b = toBytes 8 a ++ toBytes 8 b
-
-abbrev pub fourteen : ℕ → ℕ → List ℕ
-fourteen a b = toBytes 8 a ++ toBytes 6 b
+-- the n bytes, 8 to 16, of two words: the second has what is left for it, in its low bytes
+abbrev pub bytesIn : ℕ → ℕ → ℕ → List ℕ
+bytesIn n a b = toBytes 8 a ++ toBytes (n - 8) b
 
 abbrev pub halves : List ℕ → List ℕ
 halves bytes = fromBytes (take 8 bytes) ∷ fromBytes (drop 8 bytes) ∷ []
@@ -29,11 +26,8 @@ five l = word l 0 % 2 ^ 32 ∷ word l 1 % 2 ^ 32 ∷ word l 2 % 2 ^ 32 ∷ word 
 
 -- ---- what comes back from its words as it was
 
-abbrev pub Lasts16 : List ℕ → Type 0
-Lasts16 l = sixteen (word (halves l) 0) (word (halves l) 1) ≡ l
-
-abbrev pub Lasts14 : List ℕ → Type 0
-Lasts14 l = fourteen (word (halves l) 0) (word (halves l) 1) ≡ l
+abbrev pub Lasts : ℕ → List ℕ → Type 0
+Lasts n l = bytesIn n (word (halves l) 0) (word (halves l) 1) ≡ l
 
 pub record Numbers5 (l : List ℕ) : Type 0 where
   pub long : length l ≡ 5

@@ -2,11 +2,11 @@
 use bits::big_endian::read64;
 use bits::big_endian::write64;
 ghost use mathlib.Core.Path.{_≡_};
-ghost use Rattle.memory.specs.Words.{sixteen, fourteen, halves, Lasts16, Lasts14};
+ghost use Rattle.memory.specs.Words.{bytesIn, halves, Lasts};
 
 // The 16 bytes of two words.
 pub fn bytes16(a: u64, b: u64) -> [u8; 16]
-    ensures { λ r. ⌜ r ≡ sixteen a b ⌝ }
+    ensures { λ r. ⌜ r ≡ bytesIn 16 a b ⌝ }
 {
     let p = write64(a);
     let q = write64(b);
@@ -32,7 +32,7 @@ pub fn bytes16(a: u64, b: u64) -> [u8; 16]
 
 // 14 bytes: the second word has six, its low ones.
 pub fn bytes14(a: u64, b: u64) -> [u8; 14]
-    ensures { λ r. ⌜ r ≡ fourteen a b ⌝ }
+    ensures { λ r. ⌜ r ≡ bytesIn 14 a b ⌝ }
 {
     let p = write64(a);
     let q = write64(b);
@@ -57,7 +57,7 @@ pub fn bytes14(a: u64, b: u64) -> [u8; 14]
 // The two words of 16 bytes.
 pub fn halves16(b: [u8; 16]) -> [u64; 2]
     ensures { λ r. ⌜ r ≡ halves b ⌝ }
-    ensures { λ r. ⌜ Lasts16 b ⌝ }
+    ensures { λ r. ⌜ Lasts 16 b ⌝ }
 {
     let high = read64([b[0], b[1], b[2], b[3], b[4], b[5], b[6], b[7]]);
     let low = read64([b[8], b[9], b[10], b[11], b[12], b[13], b[14], b[15]]);
@@ -67,7 +67,7 @@ pub fn halves16(b: [u8; 16]) -> [u64; 2]
 // And of 14.
 pub fn halves14(b: [u8; 14]) -> [u64; 2]
     ensures { λ r. ⌜ r ≡ halves b ⌝ }
-    ensures { λ r. ⌜ Lasts14 b ⌝ }
+    ensures { λ r. ⌜ Lasts 14 b ⌝ }
 {
     let high = read64([b[0], b[1], b[2], b[3], b[4], b[5], b[6], b[7]]);
     let low = read64([0, 0, b[8], b[9], b[10], b[11], b[12], b[13]]);

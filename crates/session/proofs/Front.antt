@@ -7,10 +7,10 @@ use lib.ListN.{length, getD, drop, length-drop}
 use lib.Seq.{length-take-le}
 use Rattle.bits.proofs.Lists.{tabulated}
 use Rattle.memory.specs.Parts.{partAt, placeIn, cut}
-use Rattle.memory.specs.Words.{word, sixteen, fourteen, five}
+use Rattle.memory.specs.Words.{word, bytesIn, five}
 use Rattle.memory.proofs.Parts.{field-word, field-read}
 use Rattle.packet_cipher.specs.declared.keys.Keys.{Keys}
-use Rattle.session.specs.Memory.{setupLayout, theIds, theCipher, theOwnSalt, theHeaderCipher, theHeaderSalt, theInner, theOuter, sixteenOf, fourteenOf, size, setupAt}
+use Rattle.session.specs.Memory.{setupLayout, theIds, theCipher, theOwnSalt, theHeaderCipher, theHeaderSalt, theInner, theOuter, size, setupAt}
 
 keys-cong : {a b c d e f a′ b′ c′ d′ e′ f′ : List ℕ} → a ≡ a′ → b ≡ b′ → c ≡ c′ → d ≡ d′ → e ≡ e′ → f ≡ f′
     → _≡_ {A = Keys} (record { cipher = a; salt = b; «header_cipher» = c; «header_salt» = d; auth = record { inner = e; outer = f } })
@@ -25,17 +25,17 @@ module _ (words : List ℕ) where
       sym (ap₂ f (field-word setupLayout k 0 words h (omega (arith, e))) (field-word setupLayout k 1 words h (omega (arith, e))))
 
   pub keys-read : {a b c d e f : List ℕ}
-      → a ≡ sixteen (word words (placeIn setupLayout theCipher + 0)) (word words (placeIn setupLayout theCipher + 1))
-      → b ≡ fourteen (word words (placeIn setupLayout theOwnSalt + 0)) (word words (placeIn setupLayout theOwnSalt + 1))
-      → c ≡ sixteen (word words (placeIn setupLayout theHeaderCipher + 0)) (word words (placeIn setupLayout theHeaderCipher + 1))
-      → d ≡ fourteen (word words (placeIn setupLayout theHeaderSalt + 0)) (word words (placeIn setupLayout theHeaderSalt + 1))
+      → a ≡ bytesIn 16 (word words (placeIn setupLayout theCipher + 0)) (word words (placeIn setupLayout theCipher + 1))
+      → b ≡ bytesIn 14 (word words (placeIn setupLayout theOwnSalt + 0)) (word words (placeIn setupLayout theOwnSalt + 1))
+      → c ≡ bytesIn 16 (word words (placeIn setupLayout theHeaderCipher + 0)) (word words (placeIn setupLayout theHeaderCipher + 1))
+      → d ≡ bytesIn 14 (word words (placeIn setupLayout theHeaderSalt + 0)) (word words (placeIn setupLayout theHeaderSalt + 1))
       → e ≡ five (partAt (placeIn setupLayout theInner) 5 words)
       → f ≡ five (partAt (placeIn setupLayout theOuter) 5 words)
       → _≡_ {A = Keys} (record { cipher = a; salt = b; «header_cipher» = c; «header_salt» = d; auth = record { inner = e; outer = f } }) (setupAt words .keys)
   unfolding setupAt
   keys-read p q r t u v =
-      keys-cong (p ∙ two-words theCipher (omega arith) refl sixteen) (q ∙ two-words theOwnSalt (omega arith) refl fourteen)
-      (r ∙ two-words theHeaderCipher (omega arith) refl sixteen) (t ∙ two-words theHeaderSalt (omega arith) refl fourteen)
+      keys-cong (p ∙ two-words theCipher (omega arith) refl (bytesIn 16)) (q ∙ two-words theOwnSalt (omega arith) refl (bytesIn 14))
+      (r ∙ two-words theHeaderCipher (omega arith) refl (bytesIn 16)) (t ∙ two-words theHeaderSalt (omega arith) refl (bytesIn 14))
       (u ∙ ap five (sym (field-read setupLayout theInner words (omega arith)))) (v ∙ ap five (sym (field-read setupLayout theOuter words (omega arith))))
 
   pub ids-read : length words ≡ size

@@ -8,8 +8,8 @@ use lib.ListN.{length, replicate, length-append}
 use lib.Seq.{take-at, drop-at}
 use Rattle.bits.specs.Lists.{Each}
 use Rattle.memory.specs.Parts.{cellsOf, join}
-use Rattle.memory.specs.Words.{Lasts16, Lasts14, Numbers5}
-use Rattle.memory.proofs.Bytes.{sixteen-kept, fourteen-kept, five-kept}
+use Rattle.memory.specs.Words.{Lasts, Numbers5}
+use Rattle.memory.proofs.Bytes.{bytes-kept, five-kept}
 use Rattle.memory.proofs.Parts.{cut-joined, join-length}
 use Rattle.policies.specs.declared.policy.Policy.{Policy}
 use Rattle.policies.specs.declared.policy.Policy.the-variants.{Plain, Cryptex, CryptexRequired, Mask}
@@ -51,32 +51,32 @@ marked CryptexRequired = refl
 marked Mask = refl
 
 -- what has to come back of a setup's words, one array at a time
-pub record Lasts (s : Setup) : Type 0 where
-  pub key : Lasts16 (s .key)
-  pub salt : Lasts14 (s .salt)
+pub record SetupLasts (s : Setup) : Type 0 where
+  pub key : Lasts 16 (s .key)
+  pub salt : Lasts 14 (s .salt)
   pub ids : length (s .ids) ≡ 4
-  pub cipher : Lasts16 (s .keys .cipher)
-  pub own-salt : Lasts14 (s .keys .salt)
-  pub header-cipher : Lasts16 (s .keys .«header_cipher»)
-  pub header-salt : Lasts14 (s .keys .«header_salt»)
+  pub cipher : Lasts 16 (s .keys .cipher)
+  pub own-salt : Lasts 14 (s .keys .salt)
+  pub header-cipher : Lasts 16 (s .keys .«header_cipher»)
+  pub header-salt : Lasts 14 (s .keys .«header_salt»)
   pub inner : Numbers5 (s .keys .auth .inner)
   pub outer : Numbers5 (s .keys .auth .outer)
 
-fits-last : (s : Setup) → SetupFits s → Lasts s
+fits-last : (s : Setup) → SetupFits s → SetupLasts s
 fits-last s f =
     record {
-      key = sixteen-kept (s .key) (f .key);
-      salt = fourteen-kept (s .salt) (f .salt);
+      key = bytes-kept 16 (omega arith) (s .key) (f .key);
+      salt = bytes-kept 14 (omega arith) (s .salt) (f .salt);
       ids = f .ids;
-      cipher = sixteen-kept (s .keys .cipher) (f .keys .cipher);
-      own-salt = fourteen-kept (s .keys .salt) (f .keys .salt);
-      header-cipher = sixteen-kept (s .keys .«header_cipher») (f .keys .header-cipher);
-      header-salt = fourteen-kept (s .keys .«header_salt») (f .keys .header-salt);
+      cipher = bytes-kept 16 (omega arith) (s .keys .cipher) (f .keys .cipher);
+      own-salt = bytes-kept 14 (omega arith) (s .keys .salt) (f .keys .salt);
+      header-cipher = bytes-kept 16 (omega arith) (s .keys .«header_cipher») (f .keys .header-cipher);
+      header-salt = bytes-kept 14 (omega arith) (s .keys .«header_salt») (f .keys .header-salt);
       inner = five-kept (s .keys .auth .inner) (f .keys .inner);
       outer = five-kept (s .keys .auth .outer) (f .keys .outer);
     }
 
-module _ (s : Setup) (lasts : Lasts s) where
+module _ (s : Setup) (lasts : SetupLasts s) where
   sizes : map length (setupFields s) ≡ setupLayout
   sizes = rw (lasts .ids, lasts .inner .long, lasts .outer .long)
 

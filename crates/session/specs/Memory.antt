@@ -7,7 +7,7 @@ use lib.Dec.{eqb, leb}
 use lib.ListN.{getD, drop, replicate}
 use Rattle.bits.specs.Pick.{pick}
 use Rattle.memory.specs.Parts.{cellsOf, total, cut, join}
-use Rattle.memory.specs.Words.{word, sixteen, fourteen, halves, five}
+use Rattle.memory.specs.Words.{word, bytesIn, halves, five}
 use Rattle.replay.specs.Track.{stateIn, stateWords}
 use Rattle.replay.specs.Window.{blocks}
 use Rattle.policies.specs.declared.policy.Policy.{Policy}
@@ -149,20 +149,17 @@ setupFields s =
     ∷ s .keys .auth .outer
     ∷ []
 
--- 16 and 14 bytes of field k
-abbrev pub sixteenOf : List (List ℕ) → ℕ → List ℕ
-sixteenOf fields k = sixteen (word (getD fields k []) 0) (word (getD fields k []) 1)
-
-abbrev pub fourteenOf : List (List ℕ) → ℕ → List ℕ
-fourteenOf fields k = fourteen (word (getD fields k []) 0) (word (getD fields k []) 1)
+-- n bytes of field k
+abbrev pub bytesAt : ℕ → List (List ℕ) → ℕ → List ℕ
+bytesAt n fields k = bytesIn n (word (getD fields k []) 0) (word (getD fields k []) 1)
 
 abbrev pub keysFrom : List (List ℕ) → Keys
 keysFrom fields =
     record {
-      cipher = sixteenOf fields theCipher;
-      salt = fourteenOf fields theOwnSalt;
-      «header_cipher» = sixteenOf fields theHeaderCipher;
-      «header_salt» = fourteenOf fields theHeaderSalt;
+      cipher = bytesAt 16 fields theCipher;
+      salt = bytesAt 14 fields theOwnSalt;
+      «header_cipher» = bytesAt 16 fields theHeaderCipher;
+      «header_salt» = bytesAt 14 fields theHeaderSalt;
       auth = record { inner = five (getD fields theInner []); outer = five (getD fields theOuter []) };
     }
 
@@ -171,8 +168,8 @@ setupFrom fields =
     record {
       made = true;
       policy = policyOf (number fields theMark - mark);
-      key = sixteenOf fields theKey;
-      salt = fourteenOf fields theSalt;
+      key = bytesAt 16 fields theKey;
+      salt = bytesAt 14 fields theSalt;
       ids = getD fields theIds [];
       keys = keysFrom fields;
     }

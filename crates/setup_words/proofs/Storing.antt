@@ -21,7 +21,7 @@ use Rattle.session.specs.Records.{freePlace}
 use Rattle.session.specs.Making.{policyOf}
 use Rattle.session.specs.Memory.{each, recordWords, setupLayout, setupFields, front, size, recordsWords, encode, decode}
 use Rattle.session.specs.RoundTrip.{RecordFits}
-use Rattle.session.proofs.RoundTrip.{Lasts, setup-long, session-kept}
+use Rattle.session.proofs.RoundTrip.{SetupLasts, setup-long, session-kept}
 use Rattle.setup_words.specs.Steps.{Stored}
 use Rattle.memory.proofs.Writing.{puts, put-all}
 
@@ -50,7 +50,7 @@ free-fit : (n : ℕ) → Each RecordFits (replicate n freePlace)
 free-fit zero = tt
 free-fit (suc n) = (record { ssrc = omega arith; rollover = omega arith; replay = fresh-blocks blocks }, free-fit n)
 
-pub front-stored : (s : Setup) → Lasts s → s .made ≡ true → (words : List ℕ) → words ≡ puts setupLayout 0 (setupFields s) (replicate front 0)
+pub front-stored : (s : Setup) → SetupLasts s → s .made ≡ true → (words : List ℕ) → words ≡ puts setupLayout 0 (setupFields s) (replicate front 0)
     → Stored s (withPart 0 words (replicate size 0))
 unfolding encode
 front-stored s l m words e =

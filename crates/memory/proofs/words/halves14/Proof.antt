@@ -4,6 +4,7 @@ use Prim.Native.Nat.{ℕ, _+_}
 use lib.ListN.{getD}
 use mir.Syntax.{w8}
 use mir.Val.{Fits}
+use native.Mathlib.Omega.{arith}
 use borrow.Author.Needs.{needs}
 use Rattle.bits.specs.Lists.{tabulate}
 use Rattle.memory.proofs.Bytes.{halved, zeros}
@@ -62,7 +63,7 @@ returns : tie.Need-returns
 returns c =
     let b = c .before .before .args .t1 in
     let f : (i : ℕ) → Fits w8 (getD b i 0) = λ i. search needs in
-    halved 6 b (record { long = search needs; small = λ i. f i .fits }) _ _ (c .before .read64 .ensures) (c .read642 .ensures ∙ zeros (tabulate 6 (λ i. getD b (8 + i) 0)))
+    halved 14 (omega arith) b (record { long = search needs; small = λ i. f i .fits }) _ _ (c .before .read64 .ensures) (c .read642 .ensures ∙ zeros (tabulate 6 (λ i. getD b (8 + i) 0)))
 
 pub halves14-spec : {M : Type 1} → statement M
 halves14-spec =

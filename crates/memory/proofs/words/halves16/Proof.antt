@@ -3,6 +3,7 @@ use Prim.Native.Nat.{ℕ}
 use lib.ListN.{getD}
 use mir.Syntax.{w8}
 use mir.Val.{Fits}
+use native.Mathlib.Omega.{arith}
 use borrow.Author.Needs.{needs}
 use Rattle.memory.proofs.Bytes.{halved}
 use Rattle.memory.proofs.words.halves16.Statement.{statement}
@@ -66,7 +67,7 @@ returns : tie.Need-returns
 returns c =
     let b = c .before .before .args .t1 in
     let f : (i : ℕ) → Fits w8 (getD b i 0) = λ i. search needs in
-    halved 8 b (record { long = search needs; small = λ i. f i .fits }) _ _ (c .before .read64 .ensures) (c .read642 .ensures)
+    halved 16 (omega arith) b (record { long = search needs; small = λ i. f i .fits }) _ _ (c .before .read64 .ensures) (c .read642 .ensures)
 
 pub halves16-spec : {M : Type 1} → statement M
 halves16-spec =
