@@ -28,17 +28,15 @@ drop-bytes (suc n) (x ∷ l) t = drop-bytes n l (other-bytes x l t)
 written : (n : ℕ) (l : List ℕ) → T (areBytes l) → length l ≡ n → toBytes n (fromBytes l) ≡ l
 written n l t e = ap (λ (k : ℕ). toBytes k (fromBytes l)) (sym e) ∙ to-from l t
 
--- eight bytes in the first word and the others in the second
-kept : (n : ℕ) → 8 ≤ n → (l : List ℕ) → T (areBytes l) → length l ≡ n → Lasts n l
-kept n h l t e =
-    let d : length (drop 8 l) ≡ n - 8 = length-drop 8 l ∙ omega arith in
-    ap₂ (λ (a b : List ℕ). a ++ b) (written 8 (take 8 l) (take-bytes 8 l t) (length-take-le 8 l (omega arith))) (written (n - 8) (drop 8 l) (drop-bytes 8 l t) d)
-    ∙ take-append-drop 8 l
-
 -- ---- arrays of the code's types
 
+-- eight bytes in the first word and the others in the second
 pub bytes-kept : (n : ℕ) → 8 ≤ n → (l : List ℕ) → Array n 256 l → Lasts n l
-bytes-kept n h l a = kept n h l (are-bytes l (a .small)) (a .long)
+bytes-kept n h l a =
+    let t = are-bytes l (a .small) in
+    let d : length (drop 8 l) ≡ n - 8 = length-drop 8 l ∙ omega (arith, a .long) in
+    ap₂ (λ (a b : List ℕ). a ++ b) (written 8 (take 8 l) (take-bytes 8 l t) (length-take-le 8 l (omega (arith, a .long)))) (written (n - 8) (drop 8 l) (drop-bytes 8 l t) d)
+    ∙ take-append-drop 8 l
 
 pub five-kept : (l : List ℕ) → Array 5 (2 ^ 32) l → Numbers5 l
 five-kept l a =

@@ -43,7 +43,7 @@ pub record Fits (s : Session) : Type 0 where
 
 pub record SessionsLast : Type 0 where
   pub made : (s : Session) → s .setup .made ≡ true → Fits s → decode (encode s) ≡ s
-  -- without a mark nothing that stands in memory counts, a key that was left there neither
+  -- without a mark nothing that stands in memory counts, not even a key that was left there
   pub unmarked : (words : List ℕ) → isMark (word words 0) ≡ false → decode words ≡ sessionOf unmade
   pub unmade : decode (encode (sessionOf unmade)) ≡ sessionOf unmade
   -- a session fills the memory that is asked for
