@@ -45,7 +45,7 @@ extern "C" {
 enum {
     DELUGASH_PLAIN = 0,            /* plain SRTP */
     DELUGASH_CRYPTEX = 1,          /* sends Cryptex, takes Cryptex and plain */
-    DELUGASH_CRYPTEX_REQUIRED = 2, /* sends Cryptex; a header extension that arrives in the clear is refused */
+    DELUGASH_CRYPTEX_REQUIRED = 2, /* sends Cryptex; contributors or an extension that arrive in the clear are refused */
     DELUGASH_MASK = 3              /* encrypts the header extension elements whose ids are listed */
 };
 
@@ -62,7 +62,7 @@ enum {
     DELUGASH_SHORT = 2,     /* fewer than 12 bytes; unprotect: fewer than 22 */
     DELUGASH_VERSION = 3,   /* not RTP version 2 */
     DELUGASH_HEADER = 4,    /* contributors, extension header or block pass the packet's end (unprotect: the tag's start) */
-    DELUGASH_PROFILE = 5,   /* Cryptex: an extension that it cannot carry; required Cryptex: an extension in the clear */
+    DELUGASH_PROFILE = 5,   /* protect: Cryptex cannot carry this extension; unprotect, required Cryptex: contributors or an extension in the clear */
     DELUGASH_ELEMENT = 6,   /* an extension element runs past its block */
     DELUGASH_LARGE = 7,     /* the protected packet is over 2,048 bytes */
     DELUGASH_ROOM = 8,      /* the buffer is shorter than the protected packet */

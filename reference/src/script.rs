@@ -39,6 +39,11 @@ impl Desk {
         Some(self.read_and_call(line).unwrap_or(UNREADABLE.to_vec()))
     }
 
+    /// The policy of the session that this word names.
+    pub fn policy(&self, session: &[u8]) -> Option<u64> {
+        Some(self.sessions[words::session(session)?].policy().number())
+    }
+
     /// None for a line that cannot be read.
     fn read_and_call(&mut self, line: &[u8]) -> Option<Vec<u8>> {
         let words = words::split(line)?;

@@ -119,12 +119,14 @@ impl Session {
         self.policy.is_cryptex() && !packet::has_cryptex_form(extension.tag)
     }
 
-    /// PROFILE on unprotect: policy 2 takes no extension but an encrypted one.
+    /// PROFILE on unprotect: policy 2 takes no extension but an encrypted one, and contributors only
+    /// beside one, because they are in clear without it.
     fn is_wrong_profile_to_receive(&self, header: &Header) -> bool {
-        let Some(extension) = &header.extension else {
-            return false;
+        let is_in_clear = match &header.extension {
+            Some(extension) => !packet::is_cryptex_tag(extension.tag),
+            None => !header.contributors.is_empty(),
         };
-        self.policy == Policy::CryptexRequired && !packet::is_cryptex_tag(extension.tag)
+        self.policy == Policy::CryptexRequired && is_in_clear
     }
 
     /// ELEMENT: only policy 3 reads elements, and it reads all of them, listed or not.

@@ -124,20 +124,6 @@ fn order_of_refusals_on_protect() {
     assert_eq!(sender.protect(&mut buffer, 2_038), Err(Refusal::Order));
 }
 
-#[test]
-fn policy_2_takes_plain_packets_without_extension_only() {
-    let mut sender = session(0, Way::Sending, 0);
-    for (first_byte, expected) in [(0x80, Ok(20)), (0x81, Ok(20)), (0x90, Err(Refusal::Profile))] {
-        let mut buffer = vec![0; 30];
-        buffer[0] = first_byte;
-        buffer[3] = first_byte;
-        buffer[8..12].copy_from_slice(&SSRC.to_be_bytes());
-        sender.protect(&mut buffer, 20).unwrap();
-        let mut receiver = session(2, Way::Receiving, 0);
-        assert_eq!(receiver.unprotect(&mut buffer, 30), expected);
-    }
-}
-
 /// What demand 2 gives back for a plain packet.
 fn restored(draft: &craft::Draft, policy: u64) -> Vec<u8> {
     let mut draft = draft.clone();

@@ -86,9 +86,11 @@ fn random_scripts_of_20_000_calls_meet_every_refusal() {
         let mut tally = Tally::default();
         for line in random_script(seed, 20_000).split(|byte| *byte == b'\n') {
             if let Some(answer) = desk.answer(line) {
-                tally.note(line, &answer);
+                tally.note(&desk, line, &answer);
             }
         }
-        assert_eq!(tally.absent(), []);
+        assert_eq!(tally.absent(), Vec::<String>::new());
+        // Change request 2 is seen often enough to show how it stands to the other refusals.
+        assert!(tally.contributors_in_clear() >= 100);
     }
 }

@@ -47,6 +47,55 @@ fn counts_what_is_absent() {
     assert!(table.contains("absent: make 16 POLICY\n"));
     assert!(!table.contains("absent: make 15 KEYS\n"));
     assert!(!table.contains("absent: guess 13 REPEAT\n"));
+    for part in ["0 policy 2, X = 0", "5 X = 0, CC > 0", "5 X = 1"] {
+        assert!(table.contains(&format!("absent: unprotect {part}\n")));
+    }
+}
+
+/// Every refusal comes here, but not each condition of one.
+#[test]
+fn counts_an_absent_part() {
+    let script = reference(&["random", "1", "20000"], b"").stdout;
+    let script = String::from_utf8_lossy(&script);
+    let has_contributors_only = |line: &&str| {
+        let first_byte = line.rsplit(' ').next().and_then(|packet| packet.get(..2));
+        let first_byte = first_byte.and_then(|digits| u8::from_str_radix(digits, 16).ok());
+        line.starts_with("unprotect ")
+            && first_byte.is_some_and(|byte| byte & 0x10 == 0 && byte & 0x0f != 0)
+    };
+    let lines: Vec<&str> = script.split('\n').filter(|line| !has_contributors_only(line)).collect();
+    let output = reference(&["count"], lines.join("\n").as_bytes());
+    assert_eq!(output.status.code(), Some(1));
+    let table = String::from_utf8(output.stdout).unwrap();
+    let absent: Vec<&str> = table.lines().filter(|line| line.starts_with("absent")).collect();
+    assert_eq!(absent, ["absent: unprotect 5 X = 0, CC > 0"]);
+}
+
+/// Policies 1 and 2 take a packet with nothing to hide (RFC 9335's keys and stream), and policy 2
+/// refuses three in clear. A line that cannot be read is no part of anything.
+#[test]
+fn counts_the_parts_of_unprotect() {
+    let keys = "e1f97a0d3e018be0d64fa32c06de4139 0ec675ad498afeebb6960b3aabe6";
+    let bare = "800f123adecafbadcafebabeda9aff405581a926e3d9f64b25c9e74c29365631a1a5a704453a";
+    let mut script = String::new();
+    for policy in [1, 2] {
+        script += &format!("make {policy} {keys} {policy} -\nadd {policy} cafebabe r 0\n");
+        script += &format!("unprotect {policy} 38 {bare}\nunprotect {policy} x {bare}\n");
+    }
+    for first_byte in ["81", "8f", "90"] {
+        script += &format!("unprotect 2 100 {first_byte}{}\n", "00".repeat(99));
+    }
+    let table = String::from_utf8(reference(&["count"], script.as_bytes()).stdout).unwrap();
+    let expected = [
+        "unprotect          5",
+        "   0 result          2",
+        "     policy 2, X = 0       1",
+        "   5 PROFILE         3",
+        "     X = 0, CC > 0         2",
+        "     X = 1                 1",
+        "find               0",
+    ];
+    assert!(table.contains(&expected.join("\n")), "{table}");
 }
 
 #[test]

@@ -31,6 +31,27 @@ static const uint8_t wire[46] = "\x90\x0f\x12\x35\xde\xca\xfb\xad\xca\xfe\xba\xb
                                 "\x51\xc3\xe0\x36\xf8\xde\x27\xe9\xc2\x7e\xe3\xe0\xb4\x65\x1d\x9f\xbc\x42\x18\xa7"
                                 "\x02\x44\x52\x2f\x34\xa5";
 
+/* RFC 9335, A.1.5: two contributors and an empty block. */
+static const uint8_t with_block[40] = "\x92\x0f\x12\x3a\xde\xca\xfb\xad\xca\xfe\xba\xbe\x00\x01\xe2\x40\x00\x00\xb2\x6e"
+                                      "\xbe\xde\x00\x00\xab\xab\xab\xab\xab\xab\xab\xab\xab\xab\xab\xab\xab\xab\xab\xab";
+static const uint8_t with_block_wire[50] = "\x92\x0f\x12\x3a\xde\xca\xfb\xad\xca\xfe\xba\xbe\x71\x30\xb6\xab\xfe\x2a\xb0\xe3"
+                                           "\xc0\xde\x00\x00\xe3\xd9\xf6\x4b\x25\xc9\xe7\x4c\xb4\xcf\x8e\x43\xfb\x92\xe3\x78"
+                                           "\x1c\x2c\x0c\xea\xb6\xb3\xa4\x99\xa1\x4c";
+
+/* The same without its block, X = 0 and CC = 2, and as plain SRTP sends it: the RFC's plain and protected packet give the keystream, its authentication
+ * key the tag. */
+static const uint8_t with_contributors[36] = "\x82\x0f\x12\x3a\xde\xca\xfb\xad\xca\xfe\xba\xbe\x00\x01\xe2\x40\x00\x00\xb2\x6e"
+                                             "\xab\xab\xab\xab\xab\xab\xab\xab\xab\xab\xab\xab\xab\xab\xab\xab";
+static const uint8_t in_clear[46] = "\x82\x0f\x12\x3a\xde\xca\xfb\xad\xca\xfe\xba\xbe\x00\x01\xe2\x40\x00\x00\xb2\x6e"
+                                    "\xda\x9a\xff\x40\x55\x81\xa9\x26\xe3\xd9\xf6\x4b\x25\xc9\xe7\x4c\xae\xd0\xdd\x3d"
+                                    "\x9c\x17\xcb\xe1\x89\xf5";
+
+/* And without contributors. */
+static const uint8_t bare[28] = "\x80\x0f\x12\x3a\xde\xca\xfb\xad\xca\xfe\xba\xbe\xab\xab\xab\xab\xab\xab\xab\xab"
+                                "\xab\xab\xab\xab\xab\xab\xab\xab";
+static const uint8_t bare_wire[38] = "\x80\x0f\x12\x3a\xde\xca\xfb\xad\xca\xfe\xba\xbe\xda\x9a\xff\x40\x55\x81\xa9\x26"
+                                     "\xe3\xd9\xf6\x4b\x25\xc9\xe7\x4c\x29\x36\x56\x31\xa1\xa5\xa7\x04\x45\x3a";
+
 /* Session memory of exactly the size asked for, so that a tool can see a step beyond it. */
 static uint64_t *memory(void)
 {
@@ -98,6 +119,38 @@ static void refusals_leave_everything(void)
     CHECK(delugash_add(s, delugash_size(), 1, 2, 0) == DELUGASH_WAY);
     CHECK(memcmp(buf, forged, sizeof buf) == 0);
     CHECK(memcmp(s, before, delugash_size() * sizeof *s) == 0);
+    free(s);
+    free(before);
+}
+
+/* Whether a receiver under this policy gives a packet back, and as this. */
+static int given_back(uint64_t policy, const uint8_t *sent, size_t n, const uint8_t *expected)
+{
+    uint64_t *s = session(policy, DELUGASH_RECEIVING);
+    uint8_t buf[50];
+    memcpy(buf, sent, n);
+    delugash_answer a = delugash_unprotect(s, delugash_size(), buf, sizeof buf, n);
+    free(s);
+    return a.number == DELUGASH_OK && a.length == n - 10 && memcmp(buf, expected, n - 10) == 0;
+}
+
+/* Required Cryptex refuses contributors without an extension. It takes them in their Cryptex form, and a packet that has neither; other policies take all. */
+static void required_means_required(void)
+{
+    uint64_t *s = session(DELUGASH_CRYPTEX_REQUIRED, DELUGASH_RECEIVING), *before = memory();
+    uint8_t buf[46];
+    memcpy(before, s, delugash_size() * sizeof *s);
+    memcpy(buf, in_clear, sizeof in_clear);
+    delugash_answer a = delugash_unprotect(s, delugash_size(), buf, sizeof buf, sizeof in_clear);
+    CHECK(a.number == DELUGASH_PROFILE && a.length == 0);
+    /* one byte too few for the contributors before the tag */
+    CHECK(delugash_unprotect(s, delugash_size(), buf, sizeof buf, 29).number == DELUGASH_HEADER);
+    CHECK(memcmp(buf, in_clear, sizeof in_clear) == 0 && memcmp(s, before, delugash_size() * sizeof *s) == 0);
+    CHECK(given_back(DELUGASH_CRYPTEX_REQUIRED, with_block_wire, sizeof with_block_wire, with_block));
+    CHECK(given_back(DELUGASH_CRYPTEX_REQUIRED, bare_wire, sizeof bare_wire, bare));
+    CHECK(given_back(DELUGASH_PLAIN, in_clear, sizeof in_clear, with_contributors));
+    CHECK(given_back(DELUGASH_CRYPTEX, in_clear, sizeof in_clear, with_contributors));
+    CHECK(given_back(DELUGASH_MASK, in_clear, sizeof in_clear, with_contributors));
     free(s);
     free(before);
 }
@@ -241,6 +294,7 @@ int main(void)
     published_packet_both_ways();
     memory_moves();
     refusals_leave_everything();
+    required_means_required();
     wrong_memory();
     making();
     no_memory();

@@ -121,7 +121,8 @@ static void count_accepted(const shape *s, uint64_t policy, size_t n)
 {
     uint64_t receiver[DELUGASH_WORDS];
     uint8_t packet[DELUGASH_MAX_PACKET];
-    if ((policy == DELUGASH_CRYPTEX_REQUIRED && s->clear && s->tag != 0) || !wire(s, policy, packet, n, HIGHEST + 1))
+    /* each shape in the clear has contributors or an extension, which required Cryptex refuses */
+    if ((policy == DELUGASH_CRYPTEX_REQUIRED && s->clear) || !wire(s, policy, packet, n, HIGHEST + 1))
         return;
     listen(receiver, policy);
     check(delugash_unprotect(receiver, DELUGASH_WORDS, packet, n, n).number == DELUGASH_OK, "not accepted");

@@ -14,7 +14,7 @@ pub enum Error {
     Version,
     /// 4: contributors, extension header or its block pass the packet's end.
     Header,
-    /// 5: an extension that Cryptex cannot carry; to unprotect under [`Policy::CryptexRequired`](crate::Policy): one that is not Cryptex.
+    /// 5: to protect, an extension that Cryptex cannot carry; to unprotect under [`Policy::CryptexRequired`](crate::Policy): contributors or an extension in clear.
     Profile,
     /// 6: an element of the header extension runs past its block.
     Element,

@@ -35,14 +35,14 @@ pub use error::Error;
 /// The most that protecting adds to a packet: a tag of ten bytes, and four where Cryptex adds an empty extension block.
 pub const ROOM: usize = 14;
 
-/// How a session treats header extensions.
+/// How a session treats header extensions and contributors.
 #[derive(Clone, Copy, Debug, PartialEq, Eq, Hash)]
 pub enum Policy {
     /// Plain SRTP: extensions and contributors are sent in clear.
     Plain = 0,
     /// Cryptex: extension and contributors are encrypted. Plain packets are taken too.
     Cryptex = 1,
-    /// Cryptex, and of packets with an extension none but Cryptex ones are taken.
+    /// Cryptex, and of packets with contributors or an extension none but Cryptex ones are taken.
     CryptexRequired = 2,
     /// The elements with the session's ids are encrypted under the mask of RFC 6904.
     Mask = 3,

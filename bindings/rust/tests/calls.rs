@@ -191,6 +191,45 @@ fn refusals_of_headers() {
     assert_eq!(sent(Policy::Mask, "900f1234decafbadcafebabebede000100110000"), Ok(30));
 }
 
+/// RFC 9335, A.1.5, without its empty block, X = 0 and CC = 2, and as plain SRTP sends it: the RFC's plain and protected packet
+/// give the keystream, its authentication key the tag. Then the same without contributors.
+const IN_CLEAR: (&str, &str) = (
+    "820f123adecafbadcafebabe0001e2400000b26eabababababababababababababababab",
+    "820f123adecafbadcafebabe0001e2400000b26eda9aff405581a926e3d9f64b25c9e74caed0dd3d9c17cbe189f5",
+);
+const BARE: (&str, &str) = (
+    "800f123adecafbadcafebabeabababababababababababababababab",
+    "800f123adecafbadcafebabeda9aff405581a926e3d9f64b25c9e74c29365631a1a5a704453a",
+);
+
+#[test]
+fn required_means_required() {
+    let (plain, wire) = (hex(IN_CLEAR.0), hex(IN_CLEAR.1));
+    for policy in [Policy::Plain, Policy::Cryptex, Policy::Mask] {
+        let mut buf = wire.clone();
+        assert_eq!(session(policy, Way::Receiving).unprotect(&mut buf, 46), Ok(36));
+        assert_eq!(buf[..36], plain);
+    }
+    let mut required = session(Policy::CryptexRequired, Way::Receiving);
+    let mut buf = wire.clone();
+    assert_eq!(required.unprotect(&mut buf, 46), Err(Error::Profile));
+    assert_eq!(
+        required.unprotect(&mut buf, 29),
+        Err(Error::Header),
+        "this comes before"
+    );
+    assert_eq!(buf, wire, "a refusal leaves the buffer");
+    // Cryptex's packet of the same index: the refused one moved nothing
+    let (_, given_back, sent) = PUBLISHED[4];
+    let mut buf = hex(sent);
+    assert_eq!(required.unprotect(&mut buf, 50), Ok(40));
+    assert_eq!(buf[..40], hex(given_back));
+    let mut required = session(Policy::CryptexRequired, Way::Receiving);
+    let mut bare = hex(BARE.1);
+    assert_eq!(required.unprotect(&mut bare, 38), Ok(28), "with neither it is taken");
+    assert_eq!(bare[..28], hex(BARE.0));
+}
+
 #[test]
 fn refusals_of_indices() {
     let packet = |sequence: u16| {

@@ -9,9 +9,9 @@ use borrow.Author.Tests.{lt-ltb, le-ltb}
 use lib.Dec.{ltb}
 use lib.ListN.{length, getD, take, drop, length-take}
 use Rattle.bits.specs.Pick.{pick}
-use Rattle.bits.specs.Xor.{xorPad}
-use Rattle.bits.proofs.Xor.{length-pad, pad-twice, pad-ext, pad-stays}
-use Rattle.aes_cm.proofs.Portions.{before-first, in-gap}
+use Rattle.bits.specs.Xor.{_⊕_, xorPad}
+use Rattle.bits.proofs.Xor.{length-pad, pad-at, pad-twice, pad-ext, pad-stays}
+use Rattle.aes_cm.proofs.Portions.{before-first, in-first, in-gap, past-gap}
 use Rattle.rtp_header.specs.declared.header.Layout.{Layout}
 use Rattle.rtp_elements.specs.Elements.{wholeOf}
 use Rattle.rtp_header.specs.Header.{layoutOf, blockOf}
@@ -80,6 +80,38 @@ module _ (policy : Policy) (listed : ℕ → Bool) (stream header-stream : ℕ �
   part-crypted a k p =
       ap (take k) (drop-pad a (padOf policy listed stream header-stream p) p)
       ∙ take-pad k (λ i. padOf policy listed stream header-stream p (a + i)) (drop a p)
+
+-- ---- without a mask
+
+module _ (policy : Policy) (listed : ℕ → Bool) (stream header-stream : ℕ → ℕ) (p : List ℕ) (bare : usesMask policy ≡ false) where
+  bare-pad : (c : Bool) → isCryptex policy (layoutOf p) ≡ c → (i : ℕ) → padOf policy listed stream header-stream p i ≡ portionPadOf (portionOf c (layoutOf p)) stream i
+  unfolding padOf
+  bare-pad c e i = rw (bare, e)
+
+  -- what is not in its Cryptex form is encrypted as under policy 0
+  pub crypted-plain : isCryptex policy (layoutOf p) ≡ false → cryptedOf policy listed stream header-stream p ≡ cryptedOf Plain listed stream header-stream p
+  unfolding cryptedOf padOf
+  crypted-plain e = pad-ext (padOf policy listed stream header-stream p) (padOf Plain listed stream header-stream p) p (λ i b. bare-pad false e i)
+
+  -- and what is, byte by byte: the keystream goes on behind the four bytes of the extension header
+  module _ (says : isCryptex policy (layoutOf p) ≡ true) (i : ℕ) (inside : i < length p) where
+    crypted-at : (k : ℕ) → portionPadOf (portionOf true (layoutOf p)) stream i ≡ stream k → getD (cryptedOf policy listed stream header-stream p) i 0 ≡ getD p i 0 ⊕ stream k
+    unfolding cryptedOf
+    crypted-at k e = pad-at (padOf policy listed stream header-stream p) p i inside ∙ ap (λ (b : ℕ). getD p i 0 ⊕ b) (bare-pad true says i ∙ e)
+
+    pub contributors-crypted : 12 ≤ i → i < layoutOf p .extension → getD (cryptedOf policy listed stream header-stream p) i 0 ≡ getD p i 0 ⊕ stream (i - 12)
+    contributors-crypted a b =
+        let s = sound p in
+        crypted-at (i - 12) (rw (s .contributors) (in-first 12 (layoutOf p .extension) (layoutOf p .block) stream i a b))
+
+    pub rest-crypted : layoutOf p .block ≤ i → getD (cryptedOf policy listed stream header-stream p) i 0 ≡ getD p i 0 ⊕ stream (i - 16)
+    rest-crypted b =
+        let s = sound p in
+        let f = s .four (cryptex-x policy (layoutOf p) says) in
+        let k : layoutOf p .extension - 12 + (i - layoutOf p .block) ≡ i - 16 = omega (arith, s .count) in
+        crypted-at (i - 16)
+        (rw (s .contributors)
+        (past-gap 12 (layoutOf p .extension) (layoutOf p .block) stream i (omega (arith, s .count)) (omega arith) b ∙ ap stream k))
 
 -- ---- the block under the mask
 

@@ -6,7 +6,7 @@ use Prim.Native.Nat.{ℕ, _+_, _*_, _≤_, _<_}
 use native.Mathlib.Omega.{arith}
 use lib.ListN.{getD}
 use Rattle.rtp_header.specs.declared.header.Layout.{Layout}
-use Rattle.rtp_header.specs.Header.{hasExtension, pastContributors, layoutBy, layoutOf}
+use Rattle.rtp_header.specs.Header.{hasExtension, countOf, pastContributors, layoutBy, layoutOf}
 use Rattle.rtp_claims.proofs.Alike.{header-alone}
 
 pub apart : {A : Type 0} → _≡_ {A = ℕ} 0 1 → A
@@ -52,6 +52,10 @@ x-by : (t : Bool) (p : List ℕ) → layoutBy t p .x ≡ t
 x-by true p = refl
 x-by false p = refl
 
+count-by : (t : Bool) (p : List ℕ) → layoutBy t p .cc ≡ countOf p
+count-by true p = refl
+count-by false p = refl
+
 past-by : (t : Bool) (p : List ℕ) → layoutBy t p .extension ≡ pastContributors p
 past-by true p = refl
 past-by false p = refl
@@ -59,6 +63,10 @@ past-by false p = refl
 pub layout-x : (p : List ℕ) → layoutOf p .x ≡ hasExtension p
 unfolding layoutOf
 layout-x p = x-by (hasExtension p) p
+
+pub layout-count : (p : List ℕ) → layoutOf p .cc ≡ countOf p
+unfolding layoutOf
+layout-count p = count-by (hasExtension p) p
 
 pub layout-extension : (p : List ℕ) → layoutOf p .extension ≡ pastContributors p
 unfolding layoutOf

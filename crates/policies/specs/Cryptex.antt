@@ -40,7 +40,7 @@ written16 p i v = set (set p i (v / 256)) (i + 1) (v % 256)
 unfoldable pub taggedOf : Policy → List ℕ → List ℕ
 taggedOf policy p = pick (usesCryptex policy && layoutOf p .x) (written16 p (layoutOf p .extension) (cryptexTag (layoutOf p .tag))) p
 
--- in its wire form, both ways: a packet whose tag says so. On receiving, any other is handled as policy 0 (document 01, "What is encrypted").
+-- in its wire form, both ways: a packet whose tag says so. On receiving, any other that passes PROFILE is handled as policy 0 (document 01, "What is encrypted").
 abbrev pub isCryptex : Policy → Layout → Bool
 isCryptex policy h = usesCryptex policy && (h .x && isCryptexTag (h .tag))
 

@@ -1,4 +1,4 @@
--- Document 01, "Numbers given back": refusals 2 to 7, for both ways. t is the length of the authentication tag.
+-- Document 01, "Numbers given back", with document 02, CR 2: refusals 2 to 7, for both ways. t is the length of the authentication tag.
 use mathlib.Core.Bool.{Bool, true, not, _&&_, _||_}
 use mathlib.Core.List.{List}
 use Prim.Native.Nat.{ℕ, _+_}
@@ -23,12 +23,13 @@ abbrev pub tailOf : Way → ℕ → ℕ
 tailOf Sending t = 0
 tailOf Receiving t = t
 
--- PROFILE: protect, policy 1 or 2, X = 1, tag neither BEDE nor 1000; unprotect, policy 2, X = 1, tag neither C0DE nor C2DE
+-- PROFILE: "protect, policy 1 or 2, X = 1, tag neither BEDE nor 1000; unprotect, policy 2, X = 1, tag neither C0DE nor C2DE"; and since document 02's CR 2
+-- "unprotect, policy 2, X = 0, CC > 0"
 abbrev pub profileFits : Way → Policy → Layout → Bool
 profileFits Sending policy h = not (usesCryptex policy && h .x) || (eqb (h .tag) 0xBEDE || eqb (h .tag) 0x1000)
 profileFits Receiving Plain h = true
 profileFits Receiving Cryptex h = true
-profileFits Receiving CryptexRequired h = not (h .x) || isCryptexTag (h .tag)
+profileFits Receiving CryptexRequired h = pick (h .x) (isCryptexTag (h .tag)) (eqb (h .cc) 0)
 profileFits Receiving Mask h = true
 
 -- ELEMENT: policy 3, X = 1, an element runs past its block. Without X the block is empty and has tag 0.

@@ -39,13 +39,14 @@ fn sent_profile_fits(policy: Policy, h: Layout) -> bool
     true
 }
 
+// Required Cryptex: an extension is encrypted, and contributors never come without one.
 fn required_profile_fits(h: Layout) -> bool
     ensures { λ r. ⌜ r ≡ profileFits Way.Receiving Policy.CryptexRequired h ⌝ }
 {
     if h.x {
         return is_cryptex_tag(h.tag);
     }
-    true
+    h.cc == 0
 }
 
 fn profile_fits(way: Way, policy: Policy, h: Layout) -> bool

@@ -1,16 +1,19 @@
 -- What the header reader answers at each of its ends.
 use mathlib.Core.Path.{_≡_, ap, _∙_}
-use mathlib.Core.Bool.{Bool, true, false}
+use mathlib.Core.Bool.{Bool, true, false, not}
 use mathlib.Core.List.{List, [], _∷_}
 use Prim.Native.Nat.{ℕ, _+_, _-_, _*_, _/_, _≤_, _<_}
 use native.Mathlib.Omega.{arith}
 use borrow.Author.Tests.{lt-ltb, le-ltb, eq-eqb, ne-eqb}
+use lib.Dec.{eqb, ltb}
 use lib.ListN.{length, getD}
 use Rattle.bits.specs.BigEndian.{fromBytes}
+use Rattle.bits.specs.Pick.{pick}
+use Rattle.bits.specs.declared.refusal.Refusal.{Refusal}
 use Rattle.bits.specs.declared.refusal.Refusal.the-variants as refusal
 use Rattle.rtp_header.specs.declared.header.Header.{Header}
 use Rattle.rtp_header.specs.declared.header.Header.the-variants.{Read, Refused}
-use Rattle.rtp_header.specs.Header.{hasExtension, countOf, pastContributors, field16, layoutBy, layoutOf, boundedOf, headerOf}
+use Rattle.rtp_header.specs.Header.{versionOf, hasExtension, countOf, pastContributors, field16, layoutBy, layoutOf, boundedOf, headerOf}
 
 module _ (p : List ℕ) (t : ℕ) where
   pub is-short : length p < 12 + t → Refused refusal.Short ≡ headerOf p t
@@ -24,6 +27,18 @@ module _ (p : List ℕ) (t : ℕ) where
   pub right-version : 12 + t ≤ length p → getD p 0 0 / 64 ≡ 2 → boundedOf p (length p - t) ≡ headerOf p t
   unfolding headerOf
   right-version long v = simp (le-ltb (length p) (12 + t) long, eq-eqb (getD p 0 0 / 64) 2 v)
+
+-- P of the answer: of every refusal, and of the packet's layout
+module _ (P : Header → Type 0) (refused : (r : Refusal) → P (Refused r)) where
+  picked : (b : Bool) (r : Refusal) (h : Header) → P h → P (pick b (Refused r) h)
+  picked true r h d = refused r
+  picked false r h d = d
+
+  pub header-cases : (p : List ℕ) (t : ℕ) → P (Read (layoutOf p)) → P (headerOf p t)
+  unfolding headerOf boundedOf
+  header-cases p t d =
+      picked (ltb (length p) (12 + t)) refusal.Short _
+      (picked (not (eqb (versionOf p) 2)) refusal.Version _ (picked (ltb (length p - t) (layoutOf p .payload)) refusal.Header _ d))
 
 module _ (p : List ℕ) (end : ℕ) where
   past : (x : Bool) → hasExtension p ≡ x → end < layoutBy x p .payload → Refused refusal.Header ≡ boundedOf p end

@@ -4,6 +4,7 @@ pub mod Settling
 pub mod Holding
 pub mod Sending
 pub mod Tags
+pub mod Required
 pub mod Arriving
 pub mod Exchanging
 pub mod Answering

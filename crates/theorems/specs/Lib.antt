@@ -4,6 +4,7 @@ pub mod Sessions
 pub mod Sent
 pub mod Tags
 pub mod Arrivals
+pub mod Required
 pub mod Places
 pub mod Memories
 pub mod DemandThree

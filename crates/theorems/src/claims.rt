@@ -1,8 +1,10 @@
-// Demands 1 to 3 over lists of calls, on sessions and on the memory that holds them; what holds of every session; and document 01's sums.
+// Demands 1 to 3 over lists of calls, on sessions and on the memory that holds them; what holds of every session; what required Cryptex accepts; and document 01's
+// sums.
 ghost use Rattle.theorems.specs.Answers.{OneAnswerEach};
 ghost use Rattle.theorems.specs.DemandThree.{DemandThree, DemandThreeInMemory};
 ghost use Rattle.theorems.specs.Example.{PremisesAreMet, HollowProgramsDiffer};
 ghost use Rattle.theorems.specs.Memories.{AnswersAsSessions};
+ghost use Rattle.theorems.specs.Required.{RequiredMeansRequired};
 ghost use Rattle.theorems.specs.Sent.{SentUnderItsIndex};
 ghost use Rattle.theorems.specs.Sums.{SumsHold};
 ghost use Rattle.theorems.specs.Tags.{TagsAreHmac};
@@ -36,6 +38,11 @@ pub fn packets_are_sent_under_their_index()
 // And each ends with its tag, which is HMAC-SHA1's under the derived authentication key.
 pub fn tags_are_hmac()
     ensures { λ _. ⌜ TagsAreHmac ⌝ }
+{}
+
+// Required Cryptex: whatever unprotect accepts came with contributors and extension encrypted, or had neither.
+pub fn required_means_required()
+    ensures { λ _. ⌜ RequiredMeansRequired ⌝ }
 {}
 
 // Demand 3: each arrival of a stream is given back right, or refused as old or repeated, as the ledger says; and two neighbouring packet calls for

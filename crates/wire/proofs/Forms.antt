@@ -6,7 +6,7 @@ use mathlib.Core.List.{List, [], _∷_}
 use Prim.Native.Nat.{ℕ, zero, suc, _+_, _-_, _*_, _/_, _%_, _≤_, _<_}
 use native.Mathlib.Decide.{decLt}
 use native.Mathlib.Omega.{arith}
-use borrow.Author.Tests.{eqb-false, eq-eqb, not-true}
+use borrow.Author.Tests.{eqb-false, eq-eqb, ltb-false, not-true}
 use lib.Dec.{eqb, ltb}
 use lib.ListN.{length, getD, take, drop, set, length-drop, length-set, length-append, List·getD-append}
 use lib.Seq.{getD-set-same, getD-set-other, set-set, set-comm, set-getD, getD-take, getD-append-add, getD-drop, length-take-le}
@@ -241,6 +241,8 @@ module _ (p : List ℕ) (x : hasExtension p ≡ false) (fits : pastContributors 
 
 pub record GivenBack (policy : Policy) (p q : List ℕ) : Type 0 where
   pub ready : Ready policy q
+  -- under Cryptex contributors have an extension beside them
+  pub covered : usesCryptex policy ≡ true → layoutOf q .x ≡ false → layoutOf q .cc ≡ 0
   pub size : length q ≡ length p + pick (addsBlock policy (layoutOf p)) 4 0
   pub fixed : (i : ℕ) → 0 < i → i < 12 → getD q i 0 ≡ getD p i 0
 
@@ -264,10 +266,18 @@ given-by policy p d true e =
             profile = λ w. rw l (inl refl);
             bytes = added-byte p x f (d .version) (d .bytes);
           };
+      covered = λ w z. let y : _≡_ {A = Bool} true false = rw l at z in apart cc;
       size = rw e m;
       fixed = added-fixed p x f;
     })
-given-by policy p d false e = rw e (record { ready = d; size = rw e (omega arith); fixed = λ i z h. refl })
+given-by policy p d false e =
+    rw e
+    (record {
+      ready = d;
+      covered = λ w z. let n : ltb 0 (layoutOf p .cc) ≡ false = rw (w, z) at e in omega (arith, ltb-false 0 (layoutOf p .cc) n);
+      size = rw e (omega arith);
+      fixed = λ i z h. refl;
+    })
 
 pub given-back : (policy : Policy) (p : List ℕ) → Ready policy p → GivenBack policy p (givenBackOf policy p)
 given-back policy p d = given-by policy p d (addsBlock policy (layoutOf p)) refl

@@ -1,9 +1,9 @@
 -- What is sent is given back.
-use mathlib.Core.Path.{_≡_, refl, ap, _∙_}
+use mathlib.Core.Path.{_≡_, refl, sym, ap, _∙_}
 use mathlib.Core.Bool.{Bool, true, false, not, _&&_, _||_}
 use mathlib.Core.Logic.{_⊎_, inl, inr}
 use mathlib.Core.List.{List, _++_}
-use Prim.Native.Nat.{ℕ, _+_, _-_, _/_, _≤_, _<_}
+use Prim.Native.Nat.{ℕ, _+_, _-_, _/_, _%_, _≤_, _<_}
 use native.Mathlib.Omega.{arith}
 use borrow.Author.Tests.{le-ltb, ltb-false, eqb-true, eq-eqb, not-false}
 use lib.Dec.{ltb, eqb}
@@ -30,7 +30,7 @@ use Rattle.policies.specs.Policies.{usesCryptex, usesMask}
 use Rattle.packet_cipher.proofs.Crypting.{crypted-stays, crypted-length, crypted-twice, crypted-alike, whole-by}
 use Rattle.wire.proofs.Forms.{Ready, Tagged, tagged, GivenBack, given-back}
 use Rattle.wire.proofs.Wires.{tag-length, ends-fit, wire-ends}
-use Rattle.policies.proofs.Layouts.{apart, sound, layout-same}
+use Rattle.policies.proofs.Layouts.{apart, sound, layout-x, layout-count, layout-same}
 
 -- ---- a packet that is not refused with 2 to 7
 
@@ -100,7 +100,7 @@ module _ (b tag : List ℕ) (long : 12 ≤ length b) (fits : layoutOf b .payload
 
 -- ---- PROFILE and ELEMENT, on the wire
 
-or-equal : (a u v : ℕ) → (eqb a u || eqb a v) ≡ true → (a ≡ u) ⊎ (a ≡ v)
+pub or-equal : (a u v : ℕ) → (eqb a u || eqb a v) ≡ true → (a ≡ u) ⊎ (a ≡ v)
 or-equal a u v e = go (eqb a u) refl e
   where
     go : (t : Bool) → eqb a u ≡ t → (t || eqb a v) ≡ true → (a ≡ u) ⊎ (a ≡ v)
@@ -110,15 +110,17 @@ or-equal a u v e = go (eqb a u) refl e
 sent-tag : (policy : Policy) (h : Layout) → profileFits Sending policy h ≡ true → (usesCryptex policy && h .x) ≡ true → (h .tag ≡ 0xBEDE) ⊎ (h .tag ≡ 0x1000)
 sent-tag policy h e u = or-equal (h .tag) 0xBEDE 0x1000 (rw u at e)
 
-got-tag : (policy : Policy) (h : Layout) → ((usesCryptex policy && h .x) ≡ true → isCryptexTag (h .tag) ≡ true) → profileFits Receiving policy h ≡ true
-got-tag Plain h k = refl
-got-tag Cryptex h k = refl
-got-tag CryptexRequired h k = go (h .x) k
+got-tag : (policy : Policy) (h : Layout) → ((usesCryptex policy && h .x) ≡ true → isCryptexTag (h .tag) ≡ true)
+    → (usesCryptex policy ≡ true → h .x ≡ false → h .cc ≡ 0)
+    → profileFits Receiving policy h ≡ true
+got-tag Plain h k c = refl
+got-tag Cryptex h k c = refl
+got-tag CryptexRequired h k c = go (h .x) k (c refl)
   where
-    go : (x : Bool) → (x ≡ true → isCryptexTag (h .tag) ≡ true) → (not x || isCryptexTag (h .tag)) ≡ true
-    go true k = k refl
-    go false k = refl
-got-tag Mask h k = refl
+    go : (x : Bool) → (x ≡ true → isCryptexTag (h .tag) ≡ true) → (x ≡ false → h .cc ≡ 0) → pick x (isCryptexTag (h .tag)) (eqb (h .cc) 0) ≡ true
+    go true k c = k refl
+    go false k c = eq-eqb (h .cc) 0 (c refl)
+got-tag Mask h k c = refl
 
 keep-elements : (policy : Policy) (encrypt : List ℕ → List ℕ) (p : List ℕ)
     → (usesMask policy ≡ true → (q : List ℕ) → wholeOf (layoutOf q .tag) (blockOf (layoutOf q) (encrypt q)) ≡ wholeOf (layoutOf q .tag) (blockOf (layoutOf q) q))
@@ -201,13 +203,20 @@ module _ (policy : Policy) (encrypt decrypt : List ℕ → List ℕ) (law : Ciph
         ∙ ap (λ (h : Layout). elementsFit policy h b) body-layout
         ∙ keep-elements policy encrypt p (law .elements) (s .elements)
 
+    -- the tag changes neither X nor CC
+    covered : usesCryptex policy ≡ true → layoutOf r .x ≡ false → layoutOf r .cc ≡ 0
+    covered u e =
+        let z : getD r 0 0 ≡ getD q 0 0 = form .fixed 0 (omega arith) in
+        layout-count r ∙ ap (λ (k : ℕ). k % 16) z ∙ sym (layout-count q)
+        ∙ given .covered u (layout-x q ∙ ap (λ (k : ℕ). eqb (k / 16 % 2) 1) (sym z) ∙ sym (layout-x r) ∙ e)
+
     arrived : Passed Receiving policy t (b ++ tag b)
     arrived =
         record {
           long = omega (arith, wire-length, long);
           version = ap (λ (x : ℕ). x / 64) (wire-fixed 0 (omega arith)) ∙ given .ready .version;
           fits = omega (arith, ap (λ (h : Layout). h .payload) wire-layout, ap (λ (h : Layout). h .payload) body-layout, fits, wire-length);
-          profile = got-tag policy (layoutOf (b ++ tag b)) (rw wire-layout (form .profile));
+          profile = got-tag policy (layoutOf (b ++ tag b)) (rw wire-layout (form .profile)) (rw wire-layout covered);
           elements = wire-elements;
           size = omega (arith, wire-size, s .size);
         }

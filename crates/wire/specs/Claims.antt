@@ -63,7 +63,7 @@ pub record SendingAlike : Type 0 where
   pub wire : (t : ℕ) (keys : Keys) (listed : ℕ → Bool) (ssrc index : ℕ) (p : List ℕ)
       → wireOf t keys CryptexRequired listed ssrc index p ≡ wireOf t keys Cryptex listed ssrc index p
 
--- Under 1 and 2 no refusal from 2 to 7 looks at contributing sources, block or payload: elements in a Cryptex block are not read.
+-- Under 1 and 2 no refusal from 2 to 7 looks at the bytes of contributing sources, block or payload: elements in a Cryptex block are not read.
 pub record CryptexLooksAtNone : Type 0 where
   pub judged : (way : Way) (policy : Policy) (t : ℕ) (p q : List ℕ) → usesCryptex policy ≡ true → length q ≡ length p → getD q 0 0 ≡ getD p 0 0
       → (layoutOf p .x ≡ true → (i : ℕ) → layoutOf p .extension ≤ i → i < layoutOf p .extension + 4 → getD q i 0 ≡ getD p i 0)

@@ -5,6 +5,7 @@ pub mod craft;
 pub mod dice;
 pub mod ends;
 pub mod limits;
+pub mod required;
 pub mod single;
 pub mod spoil;
 pub mod stage;
@@ -16,12 +17,13 @@ use std::io::{self, Write};
 type Scene = fn(&mut Stage) -> Option<()>;
 
 /// The scenes, each with how often it comes relative to the others.
-const SCENES: [(&str, u64, Scene); 13] = [
+const SCENES: [(&str, u64, Scene); 14] = [
     ("talk", 6, talk::talk),
     ("window", 3, talk::window),
     ("late", 1, talk::late),
     ("far", 3, talk::far),
     ("last", 4, talk::last),
+    ("required", 2, required::required),
     ("cross", 4, talk::cross),
     ("sizes", 2, limits::sizes),
     ("room", 2, limits::room),

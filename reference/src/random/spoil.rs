@@ -1,5 +1,5 @@
 //! Lines that cannot be read, after the list in CALLS.md: each one must be answered with `?`. Only
-//! what that list settles is made here; places it leaves open are in NOTES.md and open.txt.
+//! what that list settles is made here; places it leaves open are in README.md and open.txt.
 
 use super::dice::Dice;
 

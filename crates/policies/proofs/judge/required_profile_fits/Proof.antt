@@ -10,7 +10,7 @@ returns : tie.Need-returns
 returns c = simp (c .before .if1 .taken) (c .is-cryptex-tag .ensures)
 
 returns-2 : tie.Need-returns-2
-returns-2 c = search needs
+returns-2 c = rw (c .before .if1 .left)
 
 pub required-profile-fits-spec : {M : Type 1} → statement M
 required-profile-fits-spec = tie.close (tie.spec is-cryptex-tag-requires returns returns-2)
