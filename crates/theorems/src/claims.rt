@@ -1,5 +1,5 @@
-// Demands 1 to 3 over lists of calls, on sessions and on the memory that holds them; what holds of every session; what required Cryptex accepts; and document 01's
-// sums.
+// Demands 1 to 3 over lists of calls, on sessions and on the memory that holds them; what holds of every session; what required Cryptex accepts; document
+// 01's sums.
 ghost use Rattle.theorems.specs.Answers.{OneAnswerEach};
 ghost use Rattle.theorems.specs.DemandThree.{DemandThree, DemandThreeInMemory};
 ghost use Rattle.theorems.specs.Example.{PremisesAreMet, HollowProgramsDiffer};
