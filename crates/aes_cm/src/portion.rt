@@ -10,6 +10,7 @@ ghost use mathlib.Core.Path.{_≡_};
 ghost use Prim.Native.Nat.{_^_, _≤_, _<_};
 ghost use lib.ListN.{length};
 ghost use Rattle.bits.specs.Xor.{xorPad};
+ghost use Rattle.aes_tables.specs.Tables.{SboxTable, RoundTable};
 ghost use Rattle.aes.specs.Blocks.{byteFrom, Lent, Started};
 ghost use Rattle.aes_counter.specs.Keystream.{keystreamOf};
 ghost use Rattle.aes_cm.specs.Portion.{portionPad};
@@ -44,7 +45,30 @@ fn portion_by(
     xor_stretch(sbox, table, keys, start, buf, rest, n, t);
 }
 
-// The same by key, salt, SSRC and index: the tables are made here.
+// The same by key, salt, SSRC and index. The tables are lent: they are written to the stack anew wherever they are made, and under the mask a packet has
+// two keystreams.
+pub fn xor_portion_with(
+    sbox: &[u8; 256],
+    table: &[u8; 2048],
+    key: [u8; 16],
+    salt: [u8; 14],
+    ssrc: u32,
+    index: u64,
+    buf: &mut [u8],
+    first: usize,
+    stop: usize,
+    rest: usize,
+)
+    requires { ⌜ SboxTable (now sbox) × RoundTable (now table) ⌝ }
+    requires { ⌜ (index < 2 ^ 48) × ((first ≤ stop) × ((stop ≤ rest) × ((rest ≤ length (now buf)) × (length (now buf) ≤ 2 ^ 20)))) ⌝ }
+    ensures { λ _. ⌜ now (buf .exit) ≡ xorPad (portionPad first stop rest (keystreamOf key salt ssrc index)) (now (buf .entry)) ⌝ }
+{
+    let keys = round_keys(sbox, key);
+    let start = start_at(sbox, table, &keys, key, iv(salt, ssrc, index));
+    portion_by(sbox, table, &keys, start, buf, first, stop, rest);
+}
+
+// The same where this is the only keystream: the tables are made here.
 pub fn xor_portion(
     key: [u8; 16],
     salt: [u8; 14],
@@ -60,41 +84,16 @@ pub fn xor_portion(
 {
     let sbox = tables::sbox();
     let table = tables::round_table();
-    let keys = round_keys(&sbox, key);
-    let start = start_at(&sbox, &table, &keys, key, iv(salt, ssrc, index));
-    portion_by(&sbox, &table, &keys, start, buf, first, stop, rest);
-}
-
-// Two keystreams of one packet: that of the header key and salt onto all of `header`, and that of `key` and `salt` onto `buf` from byte `rest` on.
-// Tables are written to the stack anew wherever they are made, so they are made once for both.
-pub fn xor_two(
-    header_key: [u8; 16],
-    header_salt: [u8; 14],
-    header: &mut [u8],
-    key: [u8; 16],
-    salt: [u8; 14],
-    buf: &mut [u8],
-    rest: usize,
-    ssrc: u32,
-    index: u64,
-)
-    requires { ⌜ (index < 2 ^ 48) × (length (now header) ≤ 2 ^ 20) ⌝ }
-    requires { ⌜ (rest ≤ length (now buf)) × (length (now buf) ≤ 2 ^ 20) ⌝ }
-    ensures { λ _. ⌜ now (header .exit) ≡ xorPad (portionPad 0 0 0 (keystreamOf «header_key» «header_salt» ssrc index)) (now (header .entry)) ⌝ }
-    ensures { λ _. ⌜ now (buf .exit) ≡ xorPad (portionPad rest rest rest (keystreamOf key salt ssrc index)) (now (buf .entry)) ⌝ }
-{
-    let sbox = tables::sbox();
-    let table = tables::round_table();
-    let header_keys = round_keys(&sbox, header_key);
-    let header_start = start_at(
+    xor_portion_with(
         &sbox,
         &table,
-        &header_keys,
-        header_key,
-        iv(header_salt, ssrc, index),
+        key,
+        salt,
+        ssrc,
+        index,
+        buf,
+        first,
+        stop,
+        rest,
     );
-    portion_by(&sbox, &table, &header_keys, header_start, header, 0, 0, 0);
-    let keys = round_keys(&sbox, key);
-    let start = start_at(&sbox, &table, &keys, key, iv(salt, ssrc, index));
-    portion_by(&sbox, &table, &keys, start, buf, rest, rest, rest);
 }

@@ -41,8 +41,8 @@ module _ (key start : List ℕ) where
       ∙ sym (byte-of key start (o + k) ∙ ap₂ (λ (m n : ℕ). getD (blockFrom key start m) n 0) q r)
 
   -- the block carried along
-  pub holds-next : (block : List ℕ) (o n : ℕ) → block ≡ blockFrom key start (o / 16) → o % 16 + n ≤ 16 → 0 < n → Holds key start (record { block = block; at = o + n })
-  holds-next block o n e h p =
+  pub holds-next : (block : List ℕ) (o n : ℕ) → block ≡ blockFrom key start (o / 16) → o % 16 + n ≤ 16 → Holds key start (record { block = block; at = o + n })
+  holds-next block o n e h =
       record { block = λ u. let q : o / 16 ≡ (o + n) / 16 = omega arith in e ∙ ap (blockFrom key start) q }
 
   -- bytes of the block that is held
@@ -59,7 +59,7 @@ module _ (key start : List ℕ) where
       let part = take (a + n - a) (drop a l) in
       let lp : length part ≡ n = length-take-le (a + n - a) (drop a l) (simp length-drop (omega arith)) ∙ omega arith in
       let z : a + n ≡ a + (o + n - o) = omega arith in (
-        holds-next (s .block) o n eb f (p .forward (omega arith)),
+        holds-next (s .block) o n eb f,
         stretch-part a (a + n) o stream l ys (omega arith) (omega arith)
             (ey ∙ pad-ext (λ k. getD (s .block) (o % 16 + k) 0) (λ k. stream (o + k)) part (λ k b. in-block (s .block) o k eb (omega arith)))
             ∙ ap (λ (m : ℕ). xorPad (stretchPad a m o stream) l) z,
@@ -97,7 +97,7 @@ module _ (key start : List ℕ) where
         size = ap length here ∙ length-pad (stretchPad i (i + n) o stream) l ∙ w .size;
         at = omega (arith, w .at, w .from);
         next = λ u. let v = s .whole (omega arith) in omega arith;
-        holds = holds-next block o n eb (s .fits) (s .forward (omega arith));
+        holds = holds-next block o n eb (s .fits);
         left = ap (xorPad (stretchPad (i + n) e (o + n) stream)) here ∙ stretch-join i (i + n) e o (o + n) stream l (omega arith) (omega arith) (omega arith) ∙ w .left;
       }
 

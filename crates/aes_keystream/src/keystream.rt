@@ -19,7 +19,7 @@ pub struct Keystream {
 }
 
 // How many bytes the block at byte `from` still has for a stretch of `left` bytes.
-fn span(from: usize, left: usize) -> usize
+pub fn span(from: usize, left: usize) -> usize
     requires { ⌜ from < 16 ⌝ }
     ensures { λ r. ⌜ r ≡ spanOf from left ⌝ }
 {
@@ -55,7 +55,7 @@ pub fn seek(
 }
 
 // What is left of the block that is held goes onto the bytes from a on, but not past e.
-fn xor_held(buf: &mut [u8], a: usize, e: usize, s: Keystream) -> Keystream
+pub fn xor_held(buf: &mut [u8], a: usize, e: usize, s: Keystream) -> Keystream
     requires { ⌜ (a ≤ e) × ((e ≤ length (now buf)) × (s .at + (e - a) < 2 ^ 32)) ⌝ }
     ensures { λ r. ⌜ Used a e s r ⌝ }
     ensures { λ r. ⌜ ((key start : List ℕ) → Holds key start s → (Holds key start r) × (now (buf .exit) ≡ xorPad (stretchPad a (a + (r .at - s .at)) (s .at) (byteFrom key start)) (now (buf .entry)))) ⌝ }

@@ -2,8 +2,8 @@
 // which changes nothing.
 use crate::sessions::on_session;
 use element_lines::find::find_element;
-use element_lines::mask::mask_block;
 use index_lines::guess::guess_index;
+use mask_lines::mask::mask_block;
 use memory::copying::clear;
 use text::words::count;
 use text::words::first_among;

@@ -1,4 +1,3 @@
-// The lines of the call script on elements of a header extension, answered: `find` and `mask`.
+// The line of the call script on elements of a header extension, answered: `find`.
 // Follows docs/CALLS.md.
 pub mod find;
-pub mod mask;

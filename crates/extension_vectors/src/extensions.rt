@@ -1,12 +1,13 @@
 // A header extension: under the mask for the ids 1, 3 and 4, and its elements.
 use aes_cm::derivation::derive;
 use aes_cm::portion::xor_portion;
+use aes_tables::tables;
+use element_cipher::elements::crypt_elements;
 use libc::STDOUT_FILENO;
 use lines::arrays::array14;
 use lines::arrays::array16;
 use lines::hex::put_line;
 use rtp::find::find;
-use rtp::mask::mask;
 use rtp_elements::element::whole;
 ghost use mathlib.Core.Path.{_≡_};
 ghost use lib.ListN.{length};
@@ -36,7 +37,7 @@ pub fn pad(key: &[u8], salt: &[u8]) {
     put_line(&header_pad(key, salt));
 }
 
-// The block under that pad.
+// The listed elements of the block under that keystream.
 pub fn masked(key: &[u8], salt: &[u8], block: &mut [u8]) {
     if block.len() != 24 {
         return;
@@ -44,8 +45,23 @@ pub fn masked(key: &[u8], salt: &[u8], block: &mut [u8]) {
     if !whole(block, 0xBEDE) {
         return;
     }
+    let k = derive(array16(key), array14(salt));
+    let header_cipher = k.header_cipher;
+    let header_salt = k.header_salt;
     let listed = [0b11010u64, 0, 0, 0];
-    mask(block, 0xBEDE, &listed, &header_pad(key, salt));
+    let sbox = tables::sbox();
+    let table = tables::round_table();
+    crypt_elements(
+        &sbox,
+        &table,
+        header_cipher,
+        header_salt,
+        0xcafebabe,
+        0x1234,
+        block,
+        0xBEDE,
+        &listed,
+    );
     put_line(block);
 }
 

@@ -35,11 +35,24 @@ sound-read p h e = rw e (sound p)
 pub whole-block : (policy : Policy) (h : Layout) (p : List ℕ) → usesMask policy ≡ true → elementsFit policy h p ≡ true → wholeOf (h .tag) (blockOf h p) ≡ true
 whole-block policy h p m e = rw m at e
 
+-- the mask and Cryptex do not meet
+not-cryptex : (policy : Policy) (h : Layout) → usesMask policy ≡ true → isCryptex policy h ≡ false
+not-cryptex Plain h e = refl
+not-cryptex Cryptex h e = apart cc
+not-cryptex CryptexRequired h e = apart cc
+not-cryptex Mask h e = refl
+
 -- the portion lies in order within the packet
 pub portion-order : (c : Bool) (h : Layout) (n : ℕ) → Sound h → h .payload ≤ n
     → (portionOf c h .first ≤ portionOf c h .stop) × ((portionOf c h .stop ≤ portionOf c h .rest) × (portionOf c h .rest ≤ n))
 portion-order true h n s f = omega (arith, s .contributors, s .count, s .block, s .payload)
 portion-order false h n s f = omega arith
+
+-- so that under the mask the packet's own keystream is the payload's
+pub payload-only : (policy : Policy) (h : Layout) (stream : ℕ → ℕ) (p : List ℕ) → usesMask policy ≡ true → (c : Bool) (r : Portion) (q : List ℕ) → c ≡ isCryptex policy h
+    → r ≡ portionOf c h → q ≡ xorPad (portionPadOf r stream) p → q ≡ xorPad (portionPadOf (portionOf false h) stream) p
+payload-only policy h stream p m c r q ec er eq =
+    eq ∙ ap (λ (a : Portion). xorPad (portionPadOf a stream) p) (er ∙ ap (λ (b : Bool). portionOf b h) (ec ∙ not-cryptex policy h m))
 
 -- q is the packet once its payload is encrypted: that keystream leaves the block as it is
 module _ (h : Layout) (stream : ℕ → ℕ) (p q : List ℕ) (e : q ≡ xorPad (portionPadOf (portionOf false h) stream) p) where

@@ -59,12 +59,11 @@ unfolding blocksOf
 block-more h b s m u i es em eu = eu ∙ ap₂ compressOf es em ∙ ap (λ (k : ℕ). blocksOf k h b) (sym (add-one i))
 
 -- a turn of the loop that copies into the buffer
-pub pasted : (d b s : List ℕ) (k from i : ℕ) → k + i < length d → from + i < length s → b ≡ paste d k (drop from s) i
-    → set b (k + i) (getD s (from + i) 0) ≡ paste d k (drop from s) (i + 1)
-pasted d b s k from i hd hs e =
-    ap₂ (λ (l : List ℕ) (x : ℕ). set l (k + i) x) e (sym (getD-drop from s i 0))
-    ∙ paste-suc d k (drop from s) i 0 hd (simp length-drop (omega arith))
-    ∙ ap (paste d k (drop from s)) (sym (add-one i))
+pub pasted : (d b s : List ℕ) (k i : ℕ) → k + i < length d → i < length s → b ≡ paste d k s i → set b (k + i) (getD s i 0) ≡ paste d k s (i + 1)
+pasted d b s k i hd hs e =
+    ap (λ (l : List ℕ). set l (k + i) (getD s i 0)) e
+    ∙ paste-suc d k s i 0 hd hs
+    ∙ ap (paste d k s) (sym (add-one i))
 
 -- words and blocks of the front
 pub word-front : (p q : List ℕ) (i : ℕ) → i + 4 ≤ length p → wordAt (p ++ q) i ≡ wordAt p i

@@ -1,5 +1,3 @@
-pub mod Functions
-pub mod Stages
 pub mod Schedule
 pub mod Turns
 pub mod Blocks

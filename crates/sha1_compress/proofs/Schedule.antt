@@ -1,33 +1,33 @@
 -- The sixteen words kept are those of FIPS 180-4's message schedule.
-use mathlib.Core.Path.{_≡_, refl, sym, ap, ap₂, _∙_}
+use mathlib.Core.Path.{_≡_, sym, ap, ap₂, _∙_}
 use mathlib.Core.List.{List, [], _∷_, _++_}
 use Prim.Native.Nat.{ℕ, zero, suc, _+_, _-_, _≤_, _<_}
-use native.Mathlib.Nat.{add-suc, add-zero, zero-add}
-use native.Mathlib.Numerals.{add-one}
+use native.Mathlib.Nat.{add-suc, add-zero}
 use native.Mathlib.Omega.{arith}
 use lib.Bits.{bitXor}
 use lib.ListN.{length, getD, take, drop, length-append, length-drop, List·getD-append, drop-of-length-le}
-use lib.Seq.{drop-cons, drop-append-le, drop-drop, getD-drop, take-append-le, take-all, take-add, drop-at, length-take-le}
-use Rattle.sha1_compress.specs.Words.{rotl}
+use lib.Seq.{drop-cons, getD-drop, getD-take, getD-at, take-suc, take-all, take-append-le, length-take-le}
+use Rattle.bits.specs.Xor.{_⊕_}
+use Rattle.sha1_words.specs.Words.{rotl}
 use Rattle.sha1_compress.specs.Hash.{nextWord, scheduleOf}
-use Rattle.sha1_compress.specs.Steps.{shiftWith, shiftOf, keptOf}
+use Rattle.sha1_compress.specs.Steps.{keptAt}
 
 -- the n elements of w from i on
 abbrev pub listFrom : ℕ → ℕ → List ℕ → List ℕ
 listFrom zero i w = []
 listFrom (suc n) i w = getD w i 0 ∷ listFrom n (suc i) w
 
-pub listed : (n i : ℕ) (w : List ℕ) → length w ≡ i + n → drop i w ≡ listFrom n i w
+listed : (n i : ℕ) (w : List ℕ) → length w ≡ i + n → drop i w ≡ listFrom n i w
 listed zero i w h = drop-of-length-le w {i = i} (omega arith)
 listed (suc n) i w h = drop-cons w i 0 (omega arith) ∙ ap (λ (l : List ℕ). getD w i 0 ∷ l) (listed n (suc i) w (omega arith))
 
-pub schedule-length : (m : List ℕ) (n : ℕ) → length (scheduleOf m n) ≡ length m + n
+schedule-length : (m : List ℕ) (n : ℕ) → length (scheduleOf m n) ≡ length m + n
 unfolding scheduleOf
 schedule-length m zero = sym (add-zero (length m))
 schedule-length m (suc n) = simp length-append (omega (arith, schedule-length m n))
 
--- a word of the schedule stays
-pub schedule-keep : (m : List ℕ) (n j i : ℕ) → i < length m + n → getD (scheduleOf m (n + j)) i 0 ≡ getD (scheduleOf m n) i 0
+-- a word of the schedule stays while further ones are made
+schedule-keep : (m : List ℕ) (n j i : ℕ) → i < length m + n → getD (scheduleOf m (n + j)) i 0 ≡ getD (scheduleOf m n) i 0
 unfolding scheduleOf
 schedule-keep m n zero i h = ap (λ (k : ℕ). getD (scheduleOf m k) i 0) (add-zero n)
 schedule-keep m n (suc j) i h =
@@ -35,67 +35,80 @@ schedule-keep m n (suc j) i h =
     ∙ List·getD-append (scheduleOf m (n + j)) _ 0 i (omega (arith, schedule-length m (n + j)))
     ∙ schedule-keep m n j i h
 
--- The sixteen words kept once word n + 15 is made: words n to n + 15.
-unfoldable pub windowOf : List ℕ → ℕ → List ℕ
-windowOf m n = drop n (scheduleOf m n)
-
-pub window-length : (m : List ℕ) (n : ℕ) → length (windowOf m n) ≡ length m
-unfolding windowOf
-window-length m n = simp length-drop (omega (arith, schedule-length m n))
-
--- the first of the words kept is W_n
-pub window-first : (m : List ℕ) (n : ℕ) → length m ≡ 16 → n < 80 → getD (windowOf m n) 0 0 ≡ getD (scheduleOf m 64) n 0
-unfolding windowOf
-window-first m n h l =
-    let e : n + (80 - n) ≡ 80 = omega arith in
-    getD-drop n (scheduleOf m n) 0 0
-    ∙ ap (λ (k : ℕ). getD (scheduleOf m n) k 0) (add-zero n)
-    ∙ sym (schedule-keep m n (80 - n) n (omega arith))
-    ∙ ap (λ (k : ℕ). getD (scheduleOf m k) n 0) e
-    ∙ schedule-keep m 64 16 n (omega arith)
-
--- making word n + 16 and letting word n go
-pub window-shift : (m : List ℕ) (n : ℕ) → length m ≡ 16 → shiftOf (windowOf m n) ≡ windowOf m (suc n)
-unfolding windowOf scheduleOf
-window-shift m n h =
-    let W = scheduleOf m n in
-    let l : length W ≡ 16 + n = omega (arith, schedule-length m n) in
-    let g : (k : ℕ) → getD (drop n W) k 0 ≡ getD W (n + k) 0 = λ k. getD-drop n W k 0 in
-    let e3 : n + 13 ≡ n + 16 - 3 = omega arith in
-    let e8 : n + 8 ≡ n + 16 - 8 = omega arith in
-    let e14 : n + 2 ≡ n + 16 - 14 = omega arith in
-    let e16 : n + 0 ≡ n + 16 - 16 = omega arith in
-    let at : (i j : ℕ) → i ≡ j → getD W i 0 ≡ getD W j 0 = λ i j e. ap (λ (k : ℕ). getD W k 0) e in
-    let x : rotl 1 (bitXor (bitXor (bitXor (getD (drop n W) 13 0) (getD (drop n W) 8 0)) (getD (drop n W) 2 0)) (getD (drop n W) 0 0)) ≡ nextWord W (n + 16) =
-    ap (rotl 1) (ap₂ bitXor (ap₂ bitXor (ap₂ bitXor (g 13 ∙ at _ _ e3) (g 8 ∙ at _ _ e8)) (g 2 ∙ at _ _ e14)) (g 0 ∙ at _ _ e16)) in
-    ap (shiftWith (drop n W)) x
-    ∙ ap (λ (a : List ℕ). a ++ (nextWord W (n + 16) ∷ [])) (sym (listed 15 1 (drop n W) (simp length-drop (omega arith))))
-    ∙ ap (λ (a : List ℕ). a ++ (nextWord W (n + 16) ∷ [])) (drop-drop 1 n W ∙ ap (λ (k : ℕ). drop k W) (add-one n))
-    ∙ sym (drop-append-le (suc n) W (nextWord W (n + 16) ∷ []) (omega arith))
-
-schedule-prefix : (m : List ℕ) (n j : ℕ) → take (length m + n) (scheduleOf m (n + j)) ≡ scheduleOf m n
-unfolding scheduleOf
-schedule-prefix m n zero = ap (λ (k : ℕ). take (length m + n) (scheduleOf m k)) (add-zero n) ∙ take-all (length m + n) (scheduleOf m n) (omega (arith, schedule-length m n))
-schedule-prefix m n (suc j) =
-    ap (λ (k : ℕ). take (length m + n) (scheduleOf m k)) (add-suc n j)
-    ∙ take-append-le (length m + n) (scheduleOf m (n + j)) _ (omega (arith, schedule-length m (n + j)))
-    ∙ schedule-prefix m n j
-
-window-kept : (m : List ℕ) (t : ℕ) → length m ≡ 16 → 15 ≤ t → t < 80 → windowOf m (t - 15) ≡ take 16 (drop (t - 15) (scheduleOf m 64))
-unfolding windowOf
-window-kept m t l h b =
-    let n = t - 15 in
+whole-keep : (m : List ℕ) (n i : ℕ) → n ≤ 64 → i < length m + n → getD (scheduleOf m n) i 0 ≡ getD (scheduleOf m 64) i 0
+whole-keep m n i b h =
     let e : n + (64 - n) ≡ 64 = omega arith in
-    let s : length m + n ≡ n + 16 = omega arith in
-    let w = scheduleOf m 64 in
-    ap (drop n) (sym (schedule-prefix m n (64 - n)) ∙ ap₂ (λ (i j : ℕ). take i (scheduleOf m j)) s e ∙ take-add n 16 w)
-    ∙ drop-at (take n w) (take 16 (drop n w)) n (length-take-le n w (omega (arith, schedule-length m 64)))
+    sym (schedule-keep m n (64 - n) i h) ∙ ap (λ (k : ℕ). getD (scheduleOf m k) i 0) e
 
--- the words that the code keeps are the window
-pub kept-window : (m : List ℕ) (n : ℕ) → length m ≡ 16 → keptOf m n ≡ windowOf m n
-unfolding keptOf windowOf scheduleOf
-kept-window m zero l = refl
-kept-window m (suc n) l = ap shiftOf (kept-window m n l) ∙ window-shift m n l
+schedule-last : (m : List ℕ) (n : ℕ) → length m ≡ 16 → getD (scheduleOf m (suc n)) (n + 16) 0 ≡ nextWord (scheduleOf m n) (n + 16)
+unfolding scheduleOf
+schedule-last m n l = getD-at (scheduleOf m n) _ [] 0 (n + 16) (omega (arith, schedule-length m n))
 
-pub kept : (m : List ℕ) (t : ℕ) → length m ≡ 16 → 15 ≤ t → t < 80 → keptOf m (t - 15) ≡ take 16 (drop (t - 15) (scheduleOf m 64))
-kept m t l h b = kept-window m (t - 15) l ∙ window-kept m t l h b
+-- words 16 to 79, each of the words before it
+made : (m : List ℕ) (t : ℕ) → length m ≡ 16 → 16 ≤ t → t < 80 → nextWord (scheduleOf m 64) t ≡ getD (scheduleOf m 64) t 0
+made m t l h b =
+    let n = t - 16 in
+    let e : n + 16 ≡ t = omega arith in
+    let k : (i : ℕ) → i < t → getD (scheduleOf m 64) i 0 ≡ getD (scheduleOf m n) i 0 = λ i c. sym (whole-keep m n i (omega arith) (omega arith)) in
+    ap (rotl 1)
+    (ap₂ bitXor
+    (ap₂ bitXor (ap₂ bitXor (k (t - 3) (omega arith)) (k (t - 8) (omega arith))) (k (t - 14) (omega arith)))
+    (k (t - 16) (omega arith)))
+    ∙ ap (nextWord (scheduleOf m n)) (sym e)
+    ∙ sym (schedule-last m n l)
+    ∙ ap (λ (i : ℕ). getD (scheduleOf m (suc n)) i 0) e
+    ∙ whole-keep m (suc n) t (omega arith) (omega arith)
+
+-- words 0 to 15 are the block's own
+pub own : (m : List ℕ) (t : ℕ) → t < length m → getD m t 0 ≡ getD (scheduleOf m 64) t 0
+unfolding scheduleOf
+own m t h = whole-keep m 0 t (omega arith) (omega arith)
+
+schedule-front : (m : List ℕ) (n : ℕ) → take (length m) (scheduleOf m n) ≡ m
+unfolding scheduleOf
+schedule-front m zero = take-all (length m) m (omega arith)
+schedule-front m (suc n) = take-append-le (length m) (scheduleOf m n) _ (omega (arith, schedule-length m n)) ∙ schedule-front m n
+
+pub kept-own : (m : List ℕ) → length m ≡ 16 → keptAt m 15 ≡ m
+unfolding keptAt
+kept-own m l = ap (λ (k : ℕ). take k (scheduleOf m 64)) (sym l) ∙ schedule-front m 64
+
+kept-word : (m : List ℕ) (t i : ℕ) → i < 16 → getD (keptAt m t) i 0 ≡ getD (scheduleOf m 64) (t - 15 + i) 0
+unfolding keptAt
+kept-word m t i h = getD-take 16 (drop (t - 15) (scheduleOf m 64)) i 0 h ∙ getD-drop (t - 15) (scheduleOf m 64) i 0
+
+-- the last word kept is the one made last
+pub kept-last : (m : List ℕ) (t : ℕ) → 15 ≤ t → getD (keptAt m t) 15 0 ≡ getD (scheduleOf m 64) t 0
+kept-last m t h =
+    let e : t - 15 + 15 ≡ t = omega arith in
+    kept-word m t 15 (omega arith) ∙ ap (λ (k : ℕ). getD (scheduleOf m 64) k 0) e
+
+-- making word t of the words kept, and letting word t - 16 go
+module _ (m : List ℕ) (t : ℕ) (l : length m ≡ 16) (h : 16 ≤ t) (b : t < 80) (w : List ℕ) (e : w ≡ keptAt m (t - 1)) where
+  next-of-kept : rotl 1 (getD w 13 0 ⊕ getD w 8 0 ⊕ getD w 2 0 ⊕ getD w 0 0) ≡ getD (scheduleOf m 64) t 0
+  next-of-kept =
+      let k : (i j : ℕ) → i < 16 → t - 1 - 15 + i ≡ j → getD w i 0 ≡ getD (scheduleOf m 64) j 0 =
+      λ i j c q. ap (λ (u : List ℕ). getD u i 0) e ∙ kept-word m (t - 1) i c ∙ ap (λ (x : ℕ). getD (scheduleOf m 64) x 0) q in
+      ap (rotl 1)
+      (ap₂ bitXor
+      (ap₂ bitXor (ap₂ bitXor (k 13 (t - 3) (omega arith) (omega arith)) (k 8 (t - 8) (omega arith) (omega arith))) (k 2 (t - 14) (omega arith) (omega arith)))
+      (k 0 (t - 16) (omega arith) (omega arith)))
+      ∙ made m t l h b
+
+  pub shifted : (x : ℕ) → x ≡ rotl 1 (getD w 13 0 ⊕ getD w 8 0 ⊕ getD w 2 0 ⊕ getD w 0 0) → listFrom 15 1 w ++ (x ∷ []) ≡ keptAt m t
+  unfolding keptAt
+  shifted x ex =
+      let W = scheduleOf m 64 in
+      let n = t - 16 in
+      let e1 : t - 1 - 15 ≡ n = omega arith in
+      let e2 : suc n ≡ t - 15 = omega arith in
+      let e3 : t ≡ suc n + 15 = omega arith in
+      let lW : length W ≡ 80 = omega (arith, schedule-length m 64) in
+      let ew : w ≡ take 16 (drop n W) = e ∙ ap (λ (k : ℕ). take 16 (drop k W)) e1 in
+      let lw : length w ≡ 16 = ap length ew ∙ length-take-le 16 (drop n W) (simp length-drop (omega arith)) in
+      let old : listFrom 15 1 w ≡ take 15 (drop (suc n) W) =
+      sym (listed 15 1 w lw) ∙ ap (drop 1) (ew ∙ ap (take 16) (drop-cons W n 0 (omega arith))) in
+      let new : x ≡ getD (drop (suc n) W) 15 0 = ex ∙ next-of-kept ∙ ap (λ (k : ℕ). getD W k 0) e3 ∙ sym (getD-drop (suc n) W 15 0) in
+      ap₂ (λ (a : List ℕ) (y : ℕ). a ++ (y ∷ [])) old new
+      ∙ sym (take-suc (drop (suc n) W) 15 0 (simp length-drop (omega arith)))
+      ∙ ap (λ (k : ℕ). take 16 (drop k W)) e2

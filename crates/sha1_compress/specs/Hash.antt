@@ -4,7 +4,7 @@ use Prim.Native.Nat.{ℕ, zero, suc, _+_, _-_, _*_, _/_}
 use lib.ListN.{length, getD, drop}
 use Rattle.bits.specs.BigEndian.{toBytes}
 use Rattle.bits.specs.Xor.{_⊕_}
-use Rattle.sha1_compress.specs.Words.{_⊞_, rotl, fOf, kOf}
+use Rattle.sha1_words.specs.Words.{_⊞_, rotl, fOf, kOf}
 use Rattle.sha1_compress.specs.Message.{padOf, wordsIn}
 
 -- 5.3.1: the initial hash value

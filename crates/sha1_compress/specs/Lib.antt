@@ -1,4 +1,3 @@
-pub mod Words
 pub mod Message
 pub mod Hash
 pub mod Steps

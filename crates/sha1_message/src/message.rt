@@ -5,7 +5,7 @@ use sha1_compress::compress::compress;
 ghost use mathlib.Core.Path.{_≡_};
 ghost use mathlib.Core.List.{_++_};
 ghost use Prim.Native.Nat.{_+_, _-_, _*_, _%_, _^_, _≤_, _<_};
-ghost use lib.ListN.{length, drop};
+ghost use lib.ListN.{length, drop, replicate};
 ghost use lib.Seq.{paste};
 ghost use Rattle.sha1_compress.specs.Message.{wordAt, wordsIn};
 ghost use Rattle.sha1_compress.specs.Hash.{blocksOf};
@@ -48,30 +48,33 @@ pub fn blocks(h: [u32; 5], b: &[u8], n: usize) -> [u32; 5]
     s
 }
 
-// The buffer with the bytes of s, from byte `from` on, at k.
-fn append(buf: [u8; 128], k: usize, s: &[u8], from: usize) -> [u8; 128]
-    requires { ⌜ (from ≤ length (now s)) × (k + length (now s) ≤ 128 + from) ⌝ }
-    ensures { λ r. ⌜ r ≡ paste buf k (drop from (now (s .entry))) (length (now (s .entry)) - from) ⌝ }
+// The bytes of s into the buffer at k.
+fn put(buf: &mut [u8], k: usize, s: &[u8])
+    requires { ⌜ k + length (now s) ≤ length (now buf) ⌝ }
+    ensures { λ _. ⌜ now (buf .exit) ≡ paste (now (buf .entry)) k (now (s .entry)) (length (now (s .entry))) ⌝ }
 {
-    let mut b = buf;
     let mut i: usize = 0;
-    let n = s.len() - from;
-    while i < n {
-        b[k + i] = s[from + i];
+    while i < s.len() {
+        buf[k + i] = s[i];
         i += 1;
     }
-    b
 }
 
-// The buffer with the byte 0x80 at k, and the number of bits in the eight bytes before e.
-fn close(buf: [u8; 128], k: usize, e: usize, bits: u64) -> [u8; 128]
-    requires { ⌜ (k < 128) × ((8 ≤ e) × (e ≤ 128)) ⌝ }
-    ensures { λ r. ⌜ r ≡ closedOf buf k e bits ⌝ }
+// What is left of a message, in two parts, and its padding, into a buffer of zeros; how many blocks they are.
+// (The byte 0x80 and the length are nine bytes more, which 119 leave room for.)
+fn close(end: &mut [u8], left: &[u8], tail: &[u8], bits: u64) -> usize
+    requires { ⌜ (now end ≡ replicate 128 0) × (length (now left) + length (now tail) < 120) ⌝ }
+    ensures count { λ n. ⌜ 64 * n ≡ length (closedOf (now (left .entry) ++ now (tail .entry)) bits) ⌝ }
+    ensures bytes { λ n. ⌜ now (end .exit) ≡ closedOf (now (left .entry) ++ now (tail .entry)) bits ++ replicate (128 - 64 * n) 0 ⌝ }
 {
-    let mut b = buf;
-    b[k] = 0x80;
-    let n = write64(bits);
-    append(b, e - 8, &n, 0)
+    let m = left.len() + tail.len();
+    put(end, 0, left);
+    put(end, left.len(), tail);
+    end[m] = 0x80;
+    let n = if m < 56 { 1 } else { 2 };
+    let number = write64(bits);
+    put(end, 64 * n - 8, &number);
+    n
 }
 
 // The hash value of a message of which k bytes, whole blocks, are in h already; the bytes of b and then of tail are the rest.
@@ -82,16 +85,8 @@ pub fn finish(h: [u32; 5], k: usize, b: &[u8], tail: &[u8]) -> [u32; 5]
 {
     let n = b.len() / 64;
     let s = blocks(h, b, n);
-    let left = b.len() - 64 * n;
-    let x = append([0u8; 128], 0, b, 64 * n);
-    let y = append(x, left, tail, 0);
-    let m = left + tail.len();
     let bits = ((k + b.len() + tail.len()) * 8) as u64;
-    if m < 56 {
-        let z = close(y, m, 64, bits);
-        blocks(s, &z, 1)
-    } else {
-        let z = close(y, m, 128, bits);
-        blocks(s, &z, 2)
-    }
+    let mut end = [0u8; 128];
+    let e = close(&mut end, &b[64 * n..], tail, bits);
+    blocks(s, &end, e)
 }

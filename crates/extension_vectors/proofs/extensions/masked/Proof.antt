@@ -1,5 +1,6 @@
 -- `extension_vectors::extensions::masked` is safe and ends: the block was seen to be whole.
 use mathlib.Core.Path.{sym, _∙_}
+use native.Mathlib.Omega.{arith}
 use borrow.Author.Tests.{not-false}
 use borrow.Author.Needs.{needs}
 use Rattle.extension_vectors.proofs.extensions.masked.Statement.{statement}
@@ -17,16 +18,25 @@ same-length c = search needs
 returns-2 : tie.Need-returns-2
 returns-2 c = search needs
 
-header-pad-requires : tie.Need-header-pad-requires
-header-pad-requires c κs = search needs
+array16-requires : tie.Need-array16-requires
+array16-requires c κs = search needs
 
-slice-aggregate-mask : tie.Need-slice-aggregate-mask
-slice-aggregate-mask c = search needs
+array14-requires : tie.Need-array14-requires
+array14-requires c κs = search needs
 
-mask-requires : tie.Need-mask-requires
-mask-requires c κs =
-    let s = c .before .before .before .before in
-    (sym (s .before .whole .ensures) ∙ not-false _ (s .if2 .left), search needs)
+derive-requires : tie.Need-derive-requires
+derive-requires c κs = search needs
+
+sbox-requires : tie.Need-sbox-requires
+sbox-requires c κs = search needs
+
+round-table-requires : tie.Need-round-table-requires
+round-table-requires c κs = search needs
+
+crypt-elements-requires : tie.Need-crypt-elements-requires
+crypt-elements-requires c κs =
+    let s = c .before .before .before .before .before .before .before .before .before .before .before in
+    ((search needs, search needs), (omega arith, (sym (s .before .whole .ensures) ∙ not-false _ (s .if2 .left), omega arith)))
 
 put-line-requires : tie.Need-put-line-requires
 put-line-requires c κs = search needs
@@ -45,9 +55,12 @@ masked-spec =
     whole-requires
     same-length
     returns-2
-    header-pad-requires
-    slice-aggregate-mask
-    mask-requires
+    array16-requires
+    array14-requires
+    derive-requires
+    sbox-requires
+    round-table-requires
+    crypt-elements-requires
     put-line-requires
     same-length-2
     returns-3)

@@ -1,28 +1,46 @@
--- `packet_cipher::cipher::crypt` meets its contract.
-use mathlib.Core.Path.{sym, _∙_}
-use Rattle.rtp_elements.specs.Mask.{listedIn}
-use Rattle.packet_cipher.specs.Cipher.{streamOf, headerStreamOf}
-use Rattle.packet_cipher.proofs.Passes.{sound-read, whole-block, portion-order, crypted-plain, under-mask}
+-- `packet_cipher::cipher::crypt` meets its contract: the packet's keystream, and then, under the mask, the header keystream on the block.
+use mathlib.Core.Path.{_≡_, sym, _∙_}
+use mathlib.Core.Bool.{true, false}
+use mathlib.Core.List.{List}
+use Prim.Native.Nat.{ℕ}
+use native.Mathlib.Omega.{arith}
 use borrow.Author.Needs.{needs}
+use Rattle.bits.specs.Xor.{xorPad}
+use Rattle.rtp_elements.specs.Mask.{listedIn}
+use Rattle.policies.specs.Policies.{usesMask}
+use Rattle.packet_cipher.specs.Cipher.{portionOf, portionPadOf, streamOf, headerStreamOf}
+use Rattle.packet_cipher.proofs.Passes.{sound-read, whole-block, portion-order, whole-stays, size-stays, payload-only, crypted-plain, crypted-masked, under-mask}
 use Rattle.packet_cipher.proofs.cipher.crypt.Statement.{statement}
 use Rattle.packet_cipher.proofs.cipher.crypt.Tie as tie
 
-uses-mask-requires : tie.Need-uses-mask-requires
-uses-mask-requires c κs = search needs
+abbrev entry : tie.After-xor-portion-with → tie.Start
+entry x = x .before .before .before .before .before .before .before .before .before .before .before
 
-crypt-masked-requires : tie.Need-crypt-masked-requires
-crypt-masked-requires c κs =
-    let s = c .before .before .before .before in
-    (s .pre .0, (s .pre .1 .0, whole-block (s .args .policy) (s .args .h) (s .args .packet .now) (sym (c .before .before .uses-mask .ensures) ∙ c .before .if1 .taken) (s .pre .1 .1)))
+abbrev stream : tie.Start → ℕ → ℕ
+stream s = streamOf (s .args .keys) (s .args .ssrc) (s .args .index)
 
-same-length : tie.Need-same-length
-same-length c = search needs
+abbrev header-stream : tie.Start → ℕ → ℕ
+header-stream s = headerStreamOf (s .args .keys) (s .args .ssrc) (s .args .index)
 
-returns : tie.Need-returns
-returns c =
-    let m = c .before .before in
-    let t = m .before .before in
-    m .crypt-masked .ensures ∙ under-mask _ _ _ _ _ (sym (t .before .uses-mask .ensures) ∙ t .if1 .taken)
+-- the packet after its own keystream
+abbrev passed : tie.After-xor-portion-with → List ℕ
+passed x = x .xor-portion-with .last .1 .1 .1 .1 .1 .1 .0
+
+-- under the mask that was the payload's
+payload-passed : (x : tie.After-xor-portion-with) → usesMask (entry x .args .policy) ≡ true
+    → passed x ≡ xorPad (portionPadOf (portionOf false (entry x .args .h)) (stream (entry x))) (entry x .args .packet .now)
+payload-passed x m =
+    let a = entry x .args in
+    payload-only (a .policy) (a .h) (stream (entry x)) (a .packet .now) m _ _ _ (x .before .before .before .before .before .is-cryptex .ensures) (x .before .before .before .before .encrypted-portion .ensures) (x .xor-portion-with .ensures)
+
+masks : (u : tie.After-uses-mask) → u .uses-mask .result ≡ true → usesMask (entry (u .before .before .before) .args .policy) ≡ true
+masks u e = sym (u .uses-mask .ensures) ∙ e
+
+sbox-requires : tie.Need-sbox-requires
+sbox-requires c κs = search needs
+
+round-table-requires : tie.Need-round-table-requires
+round-table-requires c κs = search needs
 
 is-cryptex-requires : tie.Need-is-cryptex-requires
 is-cryptex-requires c κs = search needs
@@ -30,29 +48,76 @@ is-cryptex-requires c κs = search needs
 encrypted-portion-requires : tie.Need-encrypted-portion-requires
 encrypted-portion-requires c κs = search needs
 
-xor-packet-requires : tie.Need-xor-packet-requires
-xor-packet-requires c κs =
-    let s = c .before .before .before .before .before .before in
-    ((s .pre .1 .0, s .pre .0 .1 .1), rw (c .encrypted-portion .ensures) (portion-order (c .before .is-cryptex .result) (s .args .h) _ (sound-read _ _ (s .pre .0 .0)) (s .pre .0 .1 .0)))
+xor-portion-with-requires : tie.Need-xor-portion-with-requires
+xor-portion-with-requires c κs =
+    let s = c .before .before .before .before .before .before .before .before .before .before in
+    let o = portion-order (c .before .before .before .before .is-cryptex .result) (s .args .h) _ (sound-read _ _ (s .pre .0 .0)) (s .pre .0 .1 .0) in
+    ((c .before .before .before .before .before .before .before .before .sbox .ensures, c .before .before .before .before .before .before .before .round-table .ensures), (s .pre .1 .0, rw (c .before .before .before .encrypted-portion .ensures) (o .0, (o .1 .0, (o .1 .1, omega arith)))))
+
+uses-mask-requires : tie.Need-uses-mask-requires
+uses-mask-requires c κs = search needs
+
+sub-crypt-elements : tie.Need-sub-crypt-elements
+sub-crypt-elements c = sound-read _ _ (entry (c .before .before .before .before .before .before .before .before) .pre .0 .0) .payload
+
+part-crypt-elements-start : tie.Need-part-crypt-elements-start
+part-crypt-elements-start c = omega (arith, sound-read _ _ (entry (c .before .before .before .before .before .before .before .before) .pre .0 .0) .payload)
+
+part-crypt-elements-end : tie.Need-part-crypt-elements-end
+part-crypt-elements-end c = search needs
+
+crypt-elements-requires : tie.Need-crypt-elements-requires
+crypt-elements-requires c κs =
+    let x = c .before .before .before .before .before .before .before .before .before in
+    let s = entry x in
+    let a = s .args in
+    let h = a .h in
+    let p = s .pre .0 in
+    let m = masks (c .before .before .before .before .before .before) (c .before .before .before .before .before .if1 .taken) in
+    let e = payload-passed x m in
+    let w = whole-block (a .policy) h (a .packet .now) m (s .pre .1 .1) in
+    let n = size-stays h (stream s) (a .packet .now) _ e (sound-read _ _ (p .0)) (p .1 .0) in
+    ((x .before .before .before .before .before .before .before .before .before .sbox .ensures, x .before .before .before .before .before .before .before .before .round-table .ensures), (s .pre .1 .0, (whole-stays h (stream s) (a .packet .now) _ e w, omega (arith, n, p .1 .0, p .1 .1))))
+
+same-length : tie.Need-same-length
+same-length c = search needs
+
+returns : tie.Need-returns
+returns c =
+    let x = c .before .before .before .before .before .before .before .before .before .before .before .before in
+    let s = entry x in
+    let a = s .args in
+    let p = s .pre .0 in
+    let m = masks (c .before .before .before .before .before .before .before .before .before) (c .before .before .before .before .before .before .before .before .if1 .taken) in
+    crypted-masked (listedIn (a .ids .now)) (stream s) (header-stream s) (a .packet .now) (a .h) (p .0) (p .1 .0) _ _ (payload-passed x m) (c .before .before .crypt-elements .ensures)
+    ∙ under-mask _ _ _ _ _ m
 
 same-length-2 : tie.Need-same-length-2
 same-length-2 c = search needs
 
 returns-2 : tie.Need-returns-2
 returns-2 c =
-    let s = c .before .before .before .before .before .before .before .before .before in
-    crypted-plain (listedIn (s .args .ids .now)) (streamOf (s .args .keys) (s .args .ssrc) (s .args .index)) (headerStreamOf (s .args .keys) (s .args .ssrc) (s .args .index)) (s .args .packet .now) (s .args .h) (s .pre .0 .0) (s .args .policy) (sym (c .before .before .before .before .before .before .before .uses-mask .ensures) ∙ c .before .before .before .before .before .before .if1 .left) _ _ _ (c .before .before .before .before .is-cryptex .ensures) (c .before .before .before .encrypted-portion .ensures) (c .before .before .xor-packet .ensures)
+    let x = c .before .before .before .before in
+    let s = entry x in
+    let a = s .args in
+    crypted-plain (listedIn (a .ids .now)) (stream s) (header-stream s) (a .packet .now) (a .h) (s .pre .0 .0) (a .policy) (sym (c .before .uses-mask .ensures) ∙ c .if1 .left)
+    _ _ _ (x .before .before .before .before .before .is-cryptex .ensures) (x .before .before .before .before .encrypted-portion .ensures) (x .xor-portion-with .ensures)
 
 pub crypt-spec : {M : Type 1} → statement M
 crypt-spec =
     tie.close
     (tie.spec
-    uses-mask-requires
-    crypt-masked-requires
-    same-length
-    returns
+    sbox-requires
+    round-table-requires
     is-cryptex-requires
     encrypted-portion-requires
-    xor-packet-requires
+    xor-portion-with-requires
+    uses-mask-requires
+    sub-crypt-elements
+    part-crypt-elements-start
+    part-crypt-elements-end
+    crypt-elements-requires
+    same-length
+    returns
     same-length-2
     returns-2)

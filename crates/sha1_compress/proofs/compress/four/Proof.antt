@@ -1,8 +1,8 @@
--- `sha1_compress::compress::four` meets its contract: four steps of one stage.
-use Prim.Native.Nat.{_+_}
+-- `sha1_compress::compress::four` meets its contract: four words and steps of one stage.
+use Prim.Native.Nat.{_+_, _-_}
 use native.Mathlib.Omega.{arith}
 use borrow.Author.Needs.{needs}
-use Rattle.sha1_compress.proofs.Turns.{four}
+use Rattle.sha1_compress.proofs.Turns.{held}
 use Rattle.sha1_compress.proofs.compress.four.Statement.{statement}
 use Rattle.sha1_compress.proofs.compress.four.Tie as tie
 
@@ -19,11 +19,14 @@ turn-requires-4 : tie.Need-turn-requires-4
 turn-requires-4 c κs = search needs
 
 returns : tie.Need-returns
-returns c = λ t e h.
+returns c = λ h m t l a b e g er.
     let c3 = c .before in
     let c2 = c3 .before in
     let c1 = c2 .before in
-    four _ _ _ _ _ t (c1 .turn .ensures t e) (c2 .turn2 .ensures (t + 1) (omega arith)) (c3 .turn3 .ensures (t + 2) (omega arith)) (c .turn4 .ensures (t + 3) h)
+    let e1 = c1 .turn .ensures h m t l a (omega arith) e er in
+    let e2 = c2 .turn2 .ensures h m (t + 1) l (omega arith) (omega arith) (omega arith) (held h m t (t + 1 - 1) _ (omega arith) e1) in
+    let e3 = c3 .turn3 .ensures h m (t + 2) l (omega arith) (omega arith) (omega arith) (held h m (t + 1) (t + 2 - 1) _ (omega arith) e2) in
+    c .turn4 .ensures h m (t + 3) l (omega arith) b g (held h m (t + 2) (t + 3 - 1) _ (omega arith) e3)
 
 pub four-spec : {M : Type 1} → statement M
 four-spec =

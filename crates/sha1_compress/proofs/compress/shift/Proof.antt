@@ -1,7 +1,6 @@
--- `sha1_compress::compress::shift` meets its contract.
-use mathlib.Core.Path.{ap}
+-- `sha1_compress::compress::shift` meets its contract: the words kept, one further in the schedule.
 use borrow.Author.Needs.{needs}
-use Rattle.sha1_compress.specs.Steps.{shiftWith}
+use Rattle.sha1_compress.proofs.Schedule.{shifted}
 use Rattle.sha1_compress.proofs.compress.shift.Statement.{statement}
 use Rattle.sha1_compress.proofs.compress.shift.Tie as tie
 
@@ -66,7 +65,7 @@ array-read-t56 : tie.Need-array-read-t56
 array-read-t56 c = search needs
 
 returns : tie.Need-returns
-returns c = ap (shiftWith (c .before .args .t1)) (c .rotl1 .ensures)
+returns c = λ m t l h b e. shifted m t l h b (c .before .args .t1) e (c .rotl1 .result) (c .rotl1 .ensures)
 
 pub shift-spec : {M : Type 1} → statement M
 shift-spec =

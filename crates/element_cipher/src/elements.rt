@@ -1,0 +1,106 @@
+// Encrypting and decrypting chosen elements of a header extension in place.
+use crate::listed::is_listed;
+use crate::skip::skip;
+use aes::blocks::Start;
+use aes::blocks::round_keys;
+use aes::blocks::start_at;
+use aes_counter::counter::iv;
+use aes_keystream::keystream::Keystream;
+use aes_keystream::keystream::xor_held;
+use aes_keystream::keystream::xor_stretch;
+use rtp_elements::element::Found;
+use rtp_elements::element::next;
+ghost use mathlib.Core.Path.{_≡_};
+ghost use mathlib.Core.Bool.{true};
+ghost use Prim.Native.Nat.{_^_, _≤_, _<_};
+ghost use lib.ListN.{length};
+ghost use Rattle.bits.specs.Xor.{xorPad};
+ghost use Rattle.stretches.specs.Stretch.{stretchPad};
+ghost use Rattle.aes_tables.specs.Tables.{SboxTable, RoundTable};
+ghost use Rattle.aes.specs.Blocks.{byteFrom, Lent, Started};
+ghost use Rattle.aes_counter.specs.Keystream.{keystreamOf};
+ghost use Rattle.aes_keystream.specs.Steps.{Holds};
+ghost use Rattle.rtp_elements.specs.Elements.{wholeOf};
+ghost use Rattle.rtp_elements.specs.Mask.{listedIn, maskedOf};
+
+// The keystream onto the data of one element, from the byte of it that has the same place as the first. Most elements lie in the block that is held.
+fn crypt_element(
+    sbox: &[u8; 256],
+    table: &[u8; 2048],
+    keys: &[[[u8; 4]; 4]; 11],
+    start: Start,
+    block: &mut [u8],
+    begin: usize,
+    end: usize,
+    s: Keystream,
+) -> Keystream
+    requires { ⌜ Lent (now sbox) (now table) (now keys) (start .key) ⌝ }
+    requires { ⌜ Started start ⌝ }
+    requires { ⌜ (s .at ≤ begin) × ((begin ≤ end) × ((end ≤ length (now block)) × (length (now block) ≤ 2 ^ 20))) ⌝ }
+    requires { ⌜ Holds (start .key) (start .block) s ⌝ }
+    ensures { λ r. ⌜ (r .at ≡ end) × Holds (start .key) (start .block) r ⌝ }
+    ensures { λ _. ⌜ now (block .exit) ≡ xorPad (stretchPad begin end begin (byteFrom (start .key) (start .block))) (now (block .entry)) ⌝ }
+{
+    let t = skip(sbox, table, keys, start, s, begin);
+    let u = xor_held(block, begin, end, t);
+    let a = begin + (u.at - t.at);
+    if a < end {
+        return xor_stretch(sbox, table, keys, start, block, a, end, u);
+    }
+    u
+}
+
+// The keystream onto the data of listed elements, each from the byte of it that has the same place; the rest of the block stays.
+fn crypt_by(
+    sbox: &[u8; 256],
+    table: &[u8; 2048],
+    keys: &[[[u8; 4]; 4]; 11],
+    start: Start,
+    block: &mut [u8],
+    tag: u16,
+    listed: &[u64; 4],
+)
+    requires { ⌜ Lent (now sbox) (now table) (now keys) (start .key) ⌝ }
+    requires { ⌜ Started start ⌝ }
+    requires { ⌜ (wholeOf tag (now block) ≡ true) × (length (now block) ≤ 2 ^ 20) ⌝ }
+    ensures { λ _. ⌜ now (block .exit) ≡ maskedOf (listedIn (now (listed .entry))) tag (byteFrom (start .key) (start .block)) (now (block .entry)) ⌝ }
+{
+    let mut s = Keystream {
+        block: [0u8; 16],
+        at: 0,
+    };
+    let mut i: usize = 0;
+    while i < block.len() {
+        let Found::At(element) = next(block, tag, i) else {
+            return;
+        };
+        let begin = element.begin;
+        let end = begin + element.length;
+        if is_listed(listed, element.id) {
+            let t = crypt_element(sbox, table, keys, start, block, begin, end, s);
+            s = t;
+        }
+        i = end;
+    }
+}
+
+// The same by key, salt, SSRC and index, with tables that the caller lends.
+pub fn crypt_elements(
+    sbox: &[u8; 256],
+    table: &[u8; 2048],
+    key: [u8; 16],
+    salt: [u8; 14],
+    ssrc: u32,
+    index: u64,
+    block: &mut [u8],
+    tag: u16,
+    listed: &[u64; 4],
+)
+    requires { ⌜ SboxTable (now sbox) × RoundTable (now table) ⌝ }
+    requires { ⌜ (index < 2 ^ 48) × ((wholeOf tag (now block) ≡ true) × (length (now block) ≤ 2 ^ 20)) ⌝ }
+    ensures { λ _. ⌜ now (block .exit) ≡ maskedOf (listedIn (now (listed .entry))) tag (keystreamOf key salt ssrc index) (now (block .entry)) ⌝ }
+{
+    let keys = round_keys(sbox, key);
+    let start = start_at(sbox, table, &keys, key, iv(salt, ssrc, index));
+    crypt_by(sbox, table, &keys, start, block, tag, listed);
+}

@@ -1,0 +1,54 @@
+// The keystream moved on: a byte that is not masked uses up its byte of it too.
+use aes::blocks::Start;
+use aes_keystream::keystream::Keystream;
+use aes_keystream::keystream::span;
+use aes_keystream::keystream::xor_stretch;
+ghost use mathlib.Core.Path.{_≡_};
+ghost use mathlib.Core.List.{List};
+ghost use Prim.Native.Nat.{ℕ, _^_, _≤_, _<_};
+ghost use Rattle.aes.specs.Blocks.{Lent, Started};
+ghost use Rattle.aes_keystream.specs.Steps.{Holds};
+
+// What is left of the block that is held is passed over, but not past byte `to`.
+fn pass_held(s: Keystream, to: usize) -> Keystream
+    requires { ⌜ s .at ≤ to ⌝ }
+    ensures { λ r. ⌜ r .at ≤ to ⌝ }
+    ensures { λ r. ⌜ ((key start : List ℕ) → Holds key start s → Holds key start r) ⌝ }
+{
+    let at = s.at;
+    let from = at % 16;
+    if from == 0 {
+        return s;
+    }
+    let n = span(from, to - at);
+    let block = s.block;
+    Keystream {
+        block: block,
+        at: at + n,
+    }
+}
+
+// The keystream from byte `to` on. Blocks between go onto a few bytes that nobody reads: so each is made in its turn, by the one function that makes blocks.
+pub(crate) fn skip(
+    sbox: &[u8; 256],
+    table: &[u8; 2048],
+    keys: &[[[u8; 4]; 4]; 11],
+    start: Start,
+    s: Keystream,
+    to: usize,
+) -> Keystream
+    requires { ⌜ Lent (now sbox) (now table) (now keys) (start .key) ⌝ }
+    requires { ⌜ Started start ⌝ }
+    requires { ⌜ (s .at ≤ to) × (to < 2 ^ 32) ⌝ }
+    requires { ⌜ Holds (start .key) (start .block) s ⌝ }
+    ensures { λ r. ⌜ (r .at ≡ to) × Holds (start .key) (start .block) r ⌝ }
+{
+    let mut unread = [0u8; 16];
+    let mut t = pass_held(s, to);
+    while t.at < to {
+        let n = span(0, to - t.at);
+        let u = xor_stretch(sbox, table, keys, start, &mut unread, 0, n, t);
+        t = u;
+    }
+    t
+}
