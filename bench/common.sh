@@ -1,4 +1,4 @@
-# What bench/run, bench/soak and bench/refusals share; they source it at the repository's root.
+# What bench/run, bench/soak, bench/refusals and bench/stack share; they source it at the repository's root.
 build=target/bench
 library=target/staticlib/libdelugash.a
 

@@ -39,9 +39,9 @@ impl Desk {
         Some(self.read_and_call(line).unwrap_or(UNREADABLE.to_vec()))
     }
 
-    /// The policy of the session that this word names.
-    pub fn policy(&self, session: &[u8]) -> Option<u64> {
-        Some(self.sessions[words::session(session)?].policy().number())
+    /// The session that this word names.
+    pub fn session(&self, session: &[u8]) -> Option<&Session> {
+        self.sessions.get(words::session(session)?)
     }
 
     /// None for a line that cannot be read.

@@ -61,6 +61,10 @@ impl Session {
         self.policy
     }
 
+    pub fn ids(&self) -> &IdSet {
+        &self.ids
+    }
+
     /// In the order they were added.
     pub fn records(&self) -> &[Record] {
         &self.records

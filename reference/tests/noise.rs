@@ -92,5 +92,7 @@ fn random_scripts_of_20_000_calls_meet_every_refusal() {
         assert_eq!(tally.absent(), Vec::<String>::new());
         // Change request 2 is seen often enough to show how it stands to the other refusals.
         assert!(tally.contributors_in_clear() >= 100);
+        // So is the mask where it goes past, over or far along the keystream's blocks.
+        assert!(tally.masks().iter().all(|count| *count >= 50), "{:?}", tally.masks());
     }
 }

@@ -50,6 +50,9 @@ fn counts_what_is_absent() {
     for part in ["0 policy 2, X = 0", "5 X = 0, CC > 0", "5 X = 1"] {
         assert!(table.contains(&format!("absent: unprotect {part}\n")));
     }
+    for part in ["mask crosses 16", "mask skips > 16", "mask block > 64"] {
+        assert!(table.contains(&format!("absent: protect 0 {part}\n")));
+    }
 }
 
 /// Every refusal comes here, but not each condition of one.
@@ -94,6 +97,54 @@ fn counts_the_parts_of_unprotect() {
         "     X = 0, CC > 0         2",
         "     X = 1                 1",
         "find               0",
+    ];
+    assert!(table.contains(&expected.join("\n")), "{table}");
+}
+
+/// Blocks on both sides of each condition, sent with id 1 listed: under the mask and under another
+/// policy, and each a second time, which is refused.
+#[test]
+fn counts_the_parts_of_protect() {
+    let keys = "e1f97a0d3e018be0d64fa32c06de4139 0ec675ad498afeebb6960b3aabe6";
+    let two_byte = |front: usize, length: usize, words: usize| {
+        let mut block = format!("{}01{length:02x}{}", "00".repeat(front), "ab".repeat(length));
+        block += &"00".repeat((8 * words - block.len()) / 2);
+        format!("1000{words:04x}{block}")
+    };
+    let blocks = [
+        // Data at 2 to 16 and at 2 to 17.
+        two_byte(0, 14, 5),
+        two_byte(0, 15, 5),
+        // Data at 16 to 18 and at 17 to 19, and none at 17 and at 34.
+        two_byte(14, 2, 5),
+        two_byte(15, 2, 5),
+        two_byte(15, 0, 5),
+        two_byte(32, 0, 9),
+        // Data 16 bytes behind the last listed data, and the same without that.
+        format!("bede0006200010ab{}10cd000000", "00".repeat(15)),
+        format!("bede0006200020ab{}10cd000000", "00".repeat(15)),
+        // Blocks of 64 and 68 bytes.
+        two_byte(0, 1, 16),
+        two_byte(0, 1, 17),
+    ];
+    let mut script = String::new();
+    for policy in [0, 3] {
+        script += &format!("make {policy} {keys} {policy} 01\nadd {policy} cafebabe s 0\n");
+        for (sequence, block) in blocks.iter().enumerate() {
+            let packet = format!("9000{sequence:04x}00000000cafebabe{block}");
+            let n = packet.len() / 2;
+            script += &format!("protect {policy} {n} {packet}{}\n", "ff".repeat(10));
+            script += &format!("protect {policy} {n} {packet}{}\n", "ff".repeat(10));
+        }
+    }
+    let table = String::from_utf8(reference(&["count"], script.as_bytes()).stdout).unwrap();
+    let expected = [
+        "protect           40",
+        "   0 result         20",
+        "     mask crosses 16       1",
+        "     mask skips > 16       2",
+        "     mask block > 64       1",
+        "  10 ORDER          20",
     ];
     assert!(table.contains(&expected.join("\n")), "{table}");
 }

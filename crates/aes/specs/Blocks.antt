@@ -11,7 +11,7 @@ use Rattle.aes_tables.specs.Tables.{SboxTable, RoundTable}
 use Rattle.aes_begin.specs.Steps.{Begins}
 use Rattle.aes.specs.declared.blocks.Start.{Start}
 
--- a starting block with the number j in its last two bytes
+-- a starting block with the number j, below 2^16, in its last two bytes
 abbrev pub numberedOf : List ℕ → ℕ → List ℕ
 numberedOf start j = tabulate 14 (λ k. getD start k 0) ++ toBytes 2 j
 
@@ -19,7 +19,7 @@ numberedOf start j = tabulate 14 (λ k. getD start k 0) ++ toBytes 2 j
 unfoldable pub blockFrom : List ℕ → List ℕ → ℕ → List ℕ
 blockFrom key start j = bytesOf (aes128Of (stateOf key) (stateOf (numberedOf start j)))
 
--- byte k of the blocks in a row, from number 0 on
+-- byte k of the blocks in a row, from number 0 on, k below 2^20
 unfoldable pub byteFrom : List ℕ → List ℕ → ℕ → ℕ
 byteFrom key start k = getD (blockFrom key start (k / 16)) (k % 16) 0
 

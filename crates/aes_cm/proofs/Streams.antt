@@ -5,15 +5,9 @@ use Prim.Native.Nat.{ℕ, _+_, _-_, _^_, _≤_, _<_}
 use native.Mathlib.Decide.{decLt}
 use native.Mathlib.Omega.{arith}
 use mathlib.Core.Logic.{inl, inr}
-use lib.Dec.{T}
 use lib.ListN.{length}
-use lib.Pow.{areBytes}
 use Rattle.bits.specs.Xor.{xorPad}
 use Rattle.bits.proofs.Xor.{pad-ext}
-use Rattle.aes.specs.declared.blocks.Start.{Start}
-use Rattle.aes.specs.Blocks.{byteFrom}
-use Rattle.aes_counter.specs.Keystream.{counterOf, keystreamOf}
-use Rattle.aes_counter.proofs.Counters.{byte-is}
 use Rattle.aes_cm.specs.Portion.{portionPad}
 use Rattle.stretches.specs.Stretch.{stretchPad}
 use Rattle.aes_cm.proofs.Portions.{before-first, in-first, in-gap, past-gap}
@@ -71,15 +65,11 @@ stretches-are stream first stop rest o l l₁ l₂ up on eo e₁ e₂ =
     ∙ ap₂ (λ (k : ℕ) (u : List ℕ). xorPad (stretchPad rest (length l) k stream) u) z e₁
     ∙ two-stretches first stop rest stream up on l
 
--- and its blocks, from the first counter block on, are the packet's keystream
-pub portion-is : (key salt : List ℕ) (ssrc i : ℕ) → length salt ≡ 14 → T (areBytes salt) → ssrc < 2 ^ 32 → i < 2 ^ 48
-    → (s : Start) → s .key ≡ key → s .block ≡ counterOf salt ssrc i 0
+-- and what its blocks are is the portion's keystream
+pub portion-is : (made stream : ℕ → ℕ) → ((k : ℕ) → k < 2 ^ 20 → made k ≡ stream k)
     → (first stop rest : ℕ) (l m : List ℕ) → first ≤ stop → stop ≤ rest → length l ≤ 2 ^ 20
-    → m ≡ xorPad (portionPad first stop rest (byteFrom (s .key) (s .block))) l
-    → m ≡ xorPad (portionPad first stop rest (keystreamOf key salt ssrc i)) l
-portion-is key salt ssrc i n b hq hi s ek ev first stop rest l m up on hl e =
+    → m ≡ xorPad (portionPad first stop rest made) l → m ≡ xorPad (portionPad first stop rest stream) l
+portion-is made stream same first stop rest l m up on hl e =
     e
-    ∙ ap₂ (λ (x y : List ℕ). xorPad (portionPad first stop rest (byteFrom x y)) l) ek ev
-    ∙ pad-ext (portionPad first stop rest (byteFrom key (counterOf salt ssrc i 0))) (portionPad first stop rest (keystreamOf key salt ssrc i)) l
-    (portion-ext first stop rest (length l) (byteFrom key (counterOf salt ssrc i 0)) (keystreamOf key salt ssrc i) up on
-    (λ k h. byte-is key salt ssrc i n b hq hi k (omega arith)))
+    ∙ pad-ext (portionPad first stop rest made) (portionPad first stop rest stream) l
+    (portion-ext first stop rest (length l) made stream up on (λ k h. same k (omega arith)))

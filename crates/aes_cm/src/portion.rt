@@ -1,8 +1,7 @@
-// The keystream of a packet onto a portion with a gap, which runs to the end of the buffer.
+// The keystream of a packet onto a portion of the buffer, which has a gap and runs to the buffer's end.
 use aes::blocks::Start;
 use aes::blocks::round_keys;
-use aes::blocks::start_at;
-use aes_counter::counter::iv;
+use aes_counter::start::packet_start;
 use aes_keystream::keystream::Keystream;
 use aes_keystream::keystream::xor_stretch;
 use aes_tables::tables;
@@ -64,7 +63,7 @@ pub fn xor_portion_with(
     ensures { λ _. ⌜ now (buf .exit) ≡ xorPad (portionPad first stop rest (keystreamOf key salt ssrc index)) (now (buf .entry)) ⌝ }
 {
     let keys = round_keys(sbox, key);
-    let start = start_at(sbox, table, &keys, key, iv(salt, ssrc, index));
+    let start = packet_start(sbox, table, &keys, key, salt, ssrc, index);
     portion_by(sbox, table, &keys, start, buf, first, stop, rest);
 }
 

@@ -6,9 +6,8 @@ use mathlib.Core.List.{List, [], _∷_, _++_, append-assoc}
 use Prim.Native.Nat.{ℕ, _+_, _-_, _^_, _≤_, _<_}
 use native.Mathlib.Omega.{arith}
 use denote.Enum.Declared.{tagOf}
-use lib.Dec.{T, eqb}
+use lib.Dec.{eqb}
 use lib.ListN.{length, getD, take, drop, length-append, length-drop}
-use lib.Pow.{areBytes}
 use lib.Seq.{take-add, take-at, drop-at, drop-drop, length-take-le}
 use types.Run.{OneOf}
 use Rattle.bits.specs.Pick.{pick}
@@ -16,10 +15,6 @@ use Rattle.bits.specs.Xor.{xorPad}
 use Rattle.bits.proofs.Xor.{length-pad, pad-ext, pad-none}
 use Rattle.stretches.specs.Stretch.{stretchPad}
 use Rattle.stretches.proofs.Stretches.{stretch-part}
-use Rattle.aes.specs.declared.blocks.Start.{Start}
-use Rattle.aes.specs.Blocks.{byteFrom}
-use Rattle.aes_counter.specs.Keystream.{counterOf, keystreamOf}
-use Rattle.aes_counter.proofs.Counters.{byte-is}
 use Rattle.rtp_elements.specs.declared.element.Element.{Element}
 use Rattle.rtp_elements.specs.declared.element.Found.{Found}
 use Rattle.rtp_elements.specs.declared.element.Found.the-variants.{At, Absent, Past}
@@ -131,17 +126,13 @@ stretched-element pad block a n block′ h d =
     ∙ sym (append-assoc (take a block) done (drop (a + n - a) (drop a block)))
     ∙ ap (λ (r : List ℕ). (take a block ++ done) ++ r) (drop-drop (a + n - a) a block ∙ ap (λ (j : ℕ). drop (a + j) block) e)
 
--- the blocks of a key, from the first counter block on, are the packet's keystream
-pub masked-is-stream : (listed : ℕ → Bool) (tag : ℕ) (key salt : List ℕ) (ssrc i : ℕ) → length salt ≡ 14 → T (areBytes salt) → ssrc < 2 ^ 32 → i < 2 ^ 48
-    → (s : Start) → s .key ≡ key → s .block ≡ counterOf salt ssrc i 0 → (block block′ : List ℕ) → length block ≤ 2 ^ 20
-    → block′ ≡ maskedOf listed tag (byteFrom (s .key) (s .block)) block → block′ ≡ maskedOf listed tag (keystreamOf key salt ssrc i) block
-masked-is-stream listed tag key salt ssrc i n b hq hi s ek ev block block′ hl e =
+-- a block is masked alike by two keystreams that agree on its bytes
+pub masked-is-stream : (listed : ℕ → Bool) (tag : ℕ) (made stream : ℕ → ℕ) → ((k : ℕ) → k < 2 ^ 20 → made k ≡ stream k) → (block block′ : List ℕ) → length block ≤ 2 ^ 20
+    → block′ ≡ maskedOf listed tag made block → block′ ≡ maskedOf listed tag stream block
+masked-is-stream listed tag made stream same block block′ hl e =
     let mask = maskOf listed tag block in
-    let made = byteFrom key (counterOf salt ssrc i 0) in
-    let stream = keystreamOf key salt ssrc i in
     e
-    ∙ ap₂ (λ (x y : List ℕ). maskedOf listed tag (byteFrom x y) block) ek ev
     ∙ masked-is listed tag made block
     ∙ pad-ext (maskedPad mask made) (maskedPad mask stream) block
-    (λ k h. ap (λ (a : ℕ). pick (eqb (getD mask k 0x00) 0xFF) a 0) (byte-is key salt ssrc i n b hq hi k (omega arith)))
+    (λ k h. ap (λ (a : ℕ). pick (eqb (getD mask k 0x00) 0xFF) a 0) (same k (omega arith)))
     ∙ sym (masked-is listed tag stream block)

@@ -3,8 +3,7 @@ use crate::listed::is_listed;
 use crate::skip::skip;
 use aes::blocks::Start;
 use aes::blocks::round_keys;
-use aes::blocks::start_at;
-use aes_counter::counter::iv;
+use aes_counter::start::packet_start;
 use aes_keystream::keystream::Keystream;
 use aes_keystream::keystream::xor_held;
 use aes_keystream::keystream::xor_stretch;
@@ -23,7 +22,7 @@ ghost use Rattle.aes_keystream.specs.Steps.{Holds};
 ghost use Rattle.rtp_elements.specs.Elements.{wholeOf};
 ghost use Rattle.rtp_elements.specs.Mask.{listedIn, maskedOf};
 
-// The keystream onto the data of one element, from the byte of it that has the same place as the first. Most elements lie in the block that is held.
+// The data of one element: byte k of the block with byte k of the keystream, k from `begin` up to `end`. Most elements lie in the cipher's block that is held.
 fn crypt_element(
     sbox: &[u8; 256],
     table: &[u8; 2048],
@@ -50,7 +49,7 @@ fn crypt_element(
     u
 }
 
-// The keystream onto the data of listed elements, each from the byte of it that has the same place; the rest of the block stays.
+// The data of listed elements, byte k of the block with byte k of the keystream; the rest of the block stays.
 fn crypt_by(
     sbox: &[u8; 256],
     table: &[u8; 2048],
@@ -101,6 +100,6 @@ pub fn crypt_elements(
     ensures { λ _. ⌜ now (block .exit) ≡ maskedOf (listedIn (now (listed .entry))) tag (keystreamOf key salt ssrc index) (now (block .entry)) ⌝ }
 {
     let keys = round_keys(sbox, key);
-    let start = start_at(sbox, table, &keys, key, iv(salt, ssrc, index));
+    let start = packet_start(sbox, table, &keys, key, salt, ssrc, index);
     crypt_by(sbox, table, &keys, start, block, tag, listed);
 }

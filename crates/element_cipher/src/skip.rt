@@ -1,18 +1,18 @@
-// The keystream moved on: a byte that is not masked uses up its byte of it too.
+// The keystream moved on: a byte that is not masked uses up its byte of it too. "Block" here is a block of the cipher, sixteen bytes of keystream.
 use aes::blocks::Start;
 use aes_keystream::keystream::Keystream;
 use aes_keystream::keystream::span;
 use aes_keystream::keystream::xor_stretch;
 ghost use mathlib.Core.Path.{_≡_};
 ghost use mathlib.Core.List.{List};
-ghost use Prim.Native.Nat.{ℕ, _^_, _≤_, _<_};
+ghost use Prim.Native.Nat.{ℕ, _^_, _≤_};
 ghost use Rattle.aes.specs.Blocks.{Lent, Started};
 ghost use Rattle.aes_keystream.specs.Steps.{Holds};
 
-// What is left of the block that is held is passed over, but not past byte `to`.
+// Moves on within the block that is held, up to its end or to byte `to`.
 fn pass_held(s: Keystream, to: usize) -> Keystream
     requires { ⌜ s .at ≤ to ⌝ }
-    ensures { λ r. ⌜ r .at ≤ to ⌝ }
+    ensures { λ r. ⌜ (s .at ≤ r .at) × (r .at ≤ to) ⌝ }
     ensures { λ r. ⌜ ((key start : List ℕ) → Holds key start s → Holds key start r) ⌝ }
 {
     let at = s.at;
@@ -28,7 +28,7 @@ fn pass_held(s: Keystream, to: usize) -> Keystream
     }
 }
 
-// The keystream from byte `to` on. Blocks between go onto a few bytes that nobody reads: so each is made in its turn, by the one function that makes blocks.
+// Moves on to byte `to`. Blocks between are made in their turn, by the one function that makes blocks, onto bytes that nobody reads.
 pub(crate) fn skip(
     sbox: &[u8; 256],
     table: &[u8; 2048],
@@ -39,7 +39,7 @@ pub(crate) fn skip(
 ) -> Keystream
     requires { ⌜ Lent (now sbox) (now table) (now keys) (start .key) ⌝ }
     requires { ⌜ Started start ⌝ }
-    requires { ⌜ (s .at ≤ to) × (to < 2 ^ 32) ⌝ }
+    requires { ⌜ (s .at ≤ to) × (to ≤ 2 ^ 20) ⌝ }
     requires { ⌜ Holds (start .key) (start .block) s ⌝ }
     ensures { λ r. ⌜ (r .at ≡ to) × Holds (start .key) (start .block) r ⌝ }
 {

@@ -23,6 +23,7 @@ pub struct Portion {
     pub rest: usize,
 }
 
+// What the packet's own keystream goes onto.
 fn encrypted_portion(cryptex: bool, h: Layout) -> Portion
     ensures { λ r. ⌜ r ≡ portionOf cryptex h ⌝ }
 {
@@ -40,8 +41,8 @@ fn encrypted_portion(cryptex: bool, h: Layout) -> Portion
     }
 }
 
-// A packet that has the form it has on the wire, and whose layout is h. Under the mask, which Cryptex never meets, the first keystream leaves the block of
-// the header extension as it is, and the listed elements have a keystream of their own. Both read the same tables.
+// A packet in the form that it has on the wire, whose layout is h. A policy uses the mask or Cryptex, never both: under the mask the packet's own keystream
+// leaves the block of the header extension as it is, and the listed elements have a keystream of their own. Both read the same tables.
 pub fn crypt(
     keys: Keys,
     policy: Policy,

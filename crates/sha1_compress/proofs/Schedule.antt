@@ -10,7 +10,7 @@ use lib.Seq.{drop-cons, getD-drop, getD-take, getD-at, take-suc, take-all, take-
 use Rattle.bits.specs.Xor.{_⊕_}
 use Rattle.sha1_words.specs.Words.{rotl}
 use Rattle.sha1_compress.specs.Hash.{nextWord, scheduleOf}
-use Rattle.sha1_compress.specs.Steps.{keptAt}
+use Rattle.sha1_compress.specs.Steps.{keptAt, madeOf, keptAfter}
 
 -- the n elements of w from i on
 abbrev pub listFrom : ℕ → ℕ → List ℕ → List ℕ
@@ -95,9 +95,9 @@ module _ (m : List ℕ) (t : ℕ) (l : length m ≡ 16) (h : 16 ≤ t) (b : t < 
       (k 0 (t - 16) (omega arith) (omega arith)))
       ∙ made m t l h b
 
-  pub shifted : (x : ℕ) → x ≡ rotl 1 (getD w 13 0 ⊕ getD w 8 0 ⊕ getD w 2 0 ⊕ getD w 0 0) → listFrom 15 1 w ++ (x ∷ []) ≡ keptAt m t
+  pub kept-next : madeOf w ≡ keptAt m t
   unfolding keptAt
-  shifted x ex =
+  kept-next =
       let W = scheduleOf m 64 in
       let n = t - 16 in
       let e1 : t - 1 - 15 ≡ n = omega arith in
@@ -105,10 +105,22 @@ module _ (m : List ℕ) (t : ℕ) (l : length m ≡ 16) (h : 16 ≤ t) (b : t < 
       let e3 : t ≡ suc n + 15 = omega arith in
       let lW : length W ≡ 80 = omega (arith, schedule-length m 64) in
       let ew : w ≡ take 16 (drop n W) = e ∙ ap (λ (k : ℕ). take 16 (drop k W)) e1 in
-      let lw : length w ≡ 16 = ap length ew ∙ length-take-le 16 (drop n W) (simp length-drop (omega arith)) in
-      let old : listFrom 15 1 w ≡ take 15 (drop (suc n) W) =
-      sym (listed 15 1 w lw) ∙ ap (drop 1) (ew ∙ ap (take 16) (drop-cons W n 0 (omega arith))) in
-      let new : x ≡ getD (drop (suc n) W) 15 0 = ex ∙ next-of-kept ∙ ap (λ (k : ℕ). getD W k 0) e3 ∙ sym (getD-drop (suc n) W 15 0) in
+      let old : drop 1 w ≡ take 15 (drop (suc n) W) = ap (drop 1) (ew ∙ ap (take 16) (drop-cons W n 0 (omega arith))) in
+      let new : rotl 1 (getD w 13 0 ⊕ getD w 8 0 ⊕ getD w 2 0 ⊕ getD w 0 0) ≡ getD (drop (suc n) W) 15 0 = next-of-kept ∙ ap (λ (k : ℕ). getD W k 0) e3 ∙ sym (getD-drop (suc n) W 15 0) in
       ap₂ (λ (a : List ℕ) (y : ℕ). a ++ (y ∷ [])) old new
       ∙ sym (take-suc (drop (suc n) W) 15 0 (simp length-drop (omega arith)))
       ∙ ap (λ (k : ℕ). take 16 (drop k W)) e2
+
+-- the words as the code writes them
+pub shifted : (w : List ℕ) (x : ℕ) → length w ≡ 16 → x ≡ rotl 1 (getD w 13 0 ⊕ getD w 8 0 ⊕ getD w 2 0 ⊕ getD w 0 0) → listFrom 15 1 w ++ (x ∷ []) ≡ madeOf w
+shifted w x l ex = ap₂ (λ (a : List ℕ) (y : ℕ). a ++ (y ∷ [])) (sym (listed 15 1 w l)) ex
+
+kept-after : (m : List ℕ) (n : ℕ) → length m ≡ 16 → n ≤ 64 → keptAfter m n ≡ keptAt m (n + 15)
+unfolding keptAfter
+kept-after m zero l b = sym (kept-own m l)
+kept-after m (suc n) l b =
+    let e : n + 15 ≡ suc n + 15 - 1 = omega arith in
+    ap madeOf (kept-after m n l (omega arith)) ∙ kept-next m (suc n + 15) l (omega arith) (omega arith) (keptAt m (n + 15)) (ap (keptAt m) e)
+
+pub kept : (m : List ℕ) (t : ℕ) → length m ≡ 16 → 15 ≤ t → t < 80 → keptAfter m (t - 15) ≡ keptAt m t
+kept m t l h b = let e : t - 15 + 15 ≡ t = omega arith in kept-after m (t - 15) l (omega arith) ∙ ap (keptAt m) e

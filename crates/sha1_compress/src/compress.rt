@@ -6,7 +6,7 @@ ghost use mathlib.Core.List.{List};
 ghost use Prim.Native.Nat.{ℕ, _+_, _-_, _*_, _/_, _≤_, _<_};
 ghost use lib.ListN.{length};
 ghost use Rattle.sha1_compress.specs.Hash.{stepWith, stepOf, sumOf, compressOf};
-ghost use Rattle.sha1_compress.specs.Steps.{keptAt, workingAt};
+ghost use Rattle.sha1_compress.specs.Steps.{madeOf, workingAt, Kept};
 
 // The working variables a to e, and the sixteen words kept.
 pub struct Working {
@@ -25,10 +25,10 @@ fn step(s: [u32; 5], f: u32, k: u32, w: u32) -> [u32; 5]
     [t, s[0], word::rotl30(s[1]), s[2], s[3]]
 }
 
-// The words kept, one further: once word t is made they are words t - 15 to t.
-// (Written out here: handing the array to a helper makes the compiler copy it, at a quarter of the speed.)
+// The next word is made: from words t - 16 to t - 1 of a schedule to words t - 15 to t.
+// (The array is written out here: with a helper that takes it the compiler copies it, and hashing runs at a quarter of the speed.)
 fn shift(w: [u32; 16]) -> [u32; 16]
-    ensures { λ r. ⌜ ((m : List ℕ) (t : ℕ) → length m ≡ 16 → 16 ≤ t → t < 80 → w ≡ keptAt m (t - 1) → r ≡ keptAt m t) ⌝ }
+    ensures { λ r. ⌜ r ≡ madeOf w ⌝ }
 {
     let x = word::rotl1(w[13] ^ w[8] ^ w[2] ^ w[0]);
     [
@@ -51,14 +51,14 @@ fn shift(w: [u32; 16]) -> [u32; 16]
     ]
 }
 
-// Step t of a stage, with W_t.
+// A step with the word w. The stage is t / 20, which settles f_t and K_t.
 fn stepped(stage: u8, s: [u32; 5], w: u32) -> [u32; 5]
     ensures { λ r. ⌜ ((t : ℕ) → t / 20 ≡ stage → r ≡ stepOf s t w) ⌝ }
 {
     step(s, word::f(stage, s[1], s[2], s[3]), word::k(stage), w)
 }
 
-// The first sixteen steps, whose words are the block's own: with those, what is held once word 15 is made.
+// Steps 0 to 15, which take the block's own words. The result and those words are what is held once word 15 is made.
 fn sixteen(h: [u32; 5], m: [u32; 16]) -> [u32; 5]
     ensures { λ r. ⌜ workingAt h m 15 ≡ record { state = r; words = m } ⌝ }
 {
@@ -72,7 +72,7 @@ fn sixteen(h: [u32; 5], m: [u32; 16]) -> [u32; 5]
     s
 }
 
-// Word t is made, and step t of a stage taken with it.
+// Word t is made, and step t taken with it, for t from 16 to 79.
 fn turn(stage: u8, r: Working) -> Working
     ensures { λ x. ⌜ ((h m : List ℕ) (t : ℕ) → length m ≡ 16 → 16 ≤ t → t < 80 → t / 20 ≡ stage → r ≡ workingAt h m (t - 1) → x ≡ workingAt h m t) ⌝ }
 {
@@ -83,7 +83,7 @@ fn turn(stage: u8, r: Working) -> Working
     Working { state: u, words: w }
 }
 
-// Four words made, each with its step, all in one stage.
+// Words t to t + 3 are made, each with its step, all in one stage: four turns.
 fn four(stage: u8, r: Working) -> Working
     ensures { λ x. ⌜ ((h m : List ℕ) (t : ℕ) → length m ≡ 16 → 16 ≤ t → t + 3 < 80 → t / 20 ≡ stage → (t + 3) / 20 ≡ stage → r ≡ workingAt h m (t - 1) → x ≡ workingAt h m (t + 3)) ⌝ }
 {
@@ -93,7 +93,7 @@ fn four(stage: u8, r: Working) -> Working
     turn(stage, c)
 }
 
-// A whole stage, of 1 to 3.
+// The twenty words and steps of stage 1, 2 or 3.
 fn twenty(stage: u8, r: Working) -> Working
     ensures { λ x. ⌜ ((h m : List ℕ) → length m ≡ 16 → 1 ≤ stage → stage ≤ 3 → r ≡ workingAt h m (20 * stage - 1) → x ≡ workingAt h m (20 * stage + 19)) ⌝ }
 {
@@ -104,6 +104,7 @@ fn twenty(stage: u8, r: Working) -> Working
     four(stage, d)
 }
 
+// The working variables added to the hash value before the block.
 fn sum(s: [u32; 5], h: [u32; 5]) -> [u32; 5]
     ensures { λ r. ⌜ r ≡ sumOf s h ⌝ }
 {
@@ -115,7 +116,7 @@ fn sum(s: [u32; 5], h: [u32; 5]) -> [u32; 5]
     [a, b, c, d, e]
 }
 
-// The hash value after a block of sixteen words. Words 16 to 79 of its schedule are made.
+// The hash value after a block of sixteen words: its schedule has 64 words more, and these are made.
 pub fn compress(h: [u32; 5], m: [u32; 16]) -> [u32; 5]
     ensures { λ r. ⌜ r ≡ compressOf h m ⌝ }
 {
@@ -128,3 +129,7 @@ pub fn compress(h: [u32; 5], m: [u32; 16]) -> [u32; 5]
     let u = d.state;
     sum(u, h)
 }
+
+pub fn kept_words_are_the_schedules()
+    ensures { λ _. ⌜ Kept ⌝ }
+{}

@@ -11,6 +11,7 @@ ghost use Rattle.sha1_compress.specs.Message.{wordAt, wordsIn};
 ghost use Rattle.sha1_compress.specs.Hash.{blocksOf};
 ghost use Rattle.sha1_compress.specs.Steps.{closedOf, hashFrom};
 
+// The word at byte `at`.
 fn word(b: &[u8], at: usize) -> u32
     requires { ⌜ at + 4 ≤ length (now b) ⌝ }
     ensures { λ r. ⌜ r ≡ wordAt (now (b .entry)) at ⌝ }
@@ -60,8 +61,8 @@ fn put(buf: &mut [u8], k: usize, s: &[u8])
     }
 }
 
-// What is left of a message, in two parts, and its padding, into a buffer of zeros; how many blocks they are.
-// (The byte 0x80 and the length are nine bytes more, which 119 leave room for.)
+// Writes what is left of a message, in two parts, and its padding into 128 zeros, and tells how many blocks they are, one or two. The byte 0x80 and the
+// length take nine bytes, so up to 119 fit.
 fn close(end: &mut [u8], left: &[u8], tail: &[u8], bits: u64) -> usize
     requires { ⌜ (now end ≡ replicate 128 0) × (length (now left) + length (now tail) < 120) ⌝ }
     ensures count { λ n. ⌜ 64 * n ≡ length (closedOf (now (left .entry) ++ now (tail .entry)) bits) ⌝ }
@@ -77,8 +78,8 @@ fn close(end: &mut [u8], left: &[u8], tail: &[u8], bits: u64) -> usize
     n
 }
 
-// The hash value of a message of which k bytes, whole blocks, are in h already; the bytes of b and then of tail are the rest.
-// No buffer that memory can hold comes near 2^60 bytes, and a packet is at most 2,048.
+// The hash value of a message of which k bytes, whole blocks, are in h already; the bytes of b and then of tail are the rest. Up to 63 bytes of b are left
+// over for its end, and 56 of tail make 119. No message here comes near 2^60 bytes: a packet has at most 2,048.
 pub fn finish(h: [u32; 5], k: usize, b: &[u8], tail: &[u8]) -> [u32; 5]
     requires { ⌜ (k % 64 ≡ 0) × ((length (now tail) ≤ 56) × (k + length (now b) + length (now tail) < 2 ^ 60)) ⌝ }
     ensures { λ r. ⌜ r ≡ hashFrom k h (now (b .entry) ++ now (tail .entry)) ⌝ }

@@ -4,7 +4,9 @@
 pub mod craft;
 pub mod dice;
 pub mod ends;
+pub mod layout;
 pub mod limits;
+pub mod masked;
 pub mod required;
 pub mod single;
 pub mod spoil;
@@ -16,8 +18,9 @@ use std::io::{self, Write};
 
 type Scene = fn(&mut Stage) -> Option<()>;
 
-/// The scenes, each with how often it comes relative to the others.
-const SCENES: [(&str, u64, Scene); 14] = [
+/// The scenes, each with how often it comes relative to the others. Their order decides what a seed
+/// gives: with this one, 3,000 calls of seed 9335 already meet every refusal.
+const SCENES: [(&str, u64, Scene); 15] = [
     ("talk", 6, talk::talk),
     ("window", 3, talk::window),
     ("late", 1, talk::late),
@@ -27,6 +30,7 @@ const SCENES: [(&str, u64, Scene); 14] = [
     ("cross", 4, talk::cross),
     ("sizes", 2, limits::sizes),
     ("room", 2, limits::room),
+    ("masked", 2, masked::masked),
     ("brink", 3, limits::brink),
     ("full", 1, limits::full),
     ("keys", 2, single::keys),

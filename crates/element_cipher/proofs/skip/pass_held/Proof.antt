@@ -25,7 +25,7 @@ returns-2 : tie.Need-returns-2
 returns-2 c =
     let s = c .before .before .before in
     let n = spanning (c .before) in
-    (omega (arith, n .within), λ key start h. holds-next key start (s .args .s .block) (s .args .s .at) (c .before .span .result) (h .block (λ z. omega arith)) (n .fits))
+    ((omega arith, omega (arith, n .within)), λ key start h. holds-next key start (s .args .s .block) (s .args .s .at) (c .before .span .result) (h .block (λ z. omega arith)) (n .fits))
 
 pub pass-held-spec : {M : Type 1} → statement M
 pass-held-spec = tie.close (tie.spec returns sub-span span-requires add-t8 returns-2)

@@ -19,7 +19,7 @@ pass-held-requires : tie.Need-pass-held-requires Inv-loop μ-loop
 pass-held-requires c κs = c .pre .1 .1 .0 .0
 
 loop-holds : tie.Need-loop-holds Inv-loop μ-loop
-loop-holds c = let e = c .pass-held .ensures in (refl, (e .0, e .1 _ _ (c .before .pre .1 .1 .1)))
+loop-holds c = let e = c .pass-held .ensures in (refl, (e .0 .1, e .1 _ _ (c .before .pre .1 .1 .1)))
 
 sub-span : tie.Need-sub-span Inv-loop μ-loop
 sub-span c = omega arith

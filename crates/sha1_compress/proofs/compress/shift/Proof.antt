@@ -1,8 +1,13 @@
 -- `sha1_compress::compress::shift` meets its contract: the words kept, one further in the schedule.
+use mathlib.Core.Path.{_≡_}
 use borrow.Author.Needs.{needs}
+use lib.ListN.{length}
 use Rattle.sha1_compress.proofs.Schedule.{shifted}
 use Rattle.sha1_compress.proofs.compress.shift.Statement.{statement}
 use Rattle.sha1_compress.proofs.compress.shift.Tie as tie
+
+sixteen : (s : tie.Start) → length (s .args .t1) ≡ 16
+sixteen s = search needs
 
 array-read-rotl1 : tie.Need-array-read-rotl1
 array-read-rotl1 c = search needs
@@ -65,7 +70,7 @@ array-read-t56 : tie.Need-array-read-t56
 array-read-t56 c = search needs
 
 returns : tie.Need-returns
-returns c = λ m t l h b e. shifted m t l h b (c .before .args .t1) e (c .rotl1 .result) (c .rotl1 .ensures)
+returns c = shifted (c .before .args .t1) (c .rotl1 .result) (sixteen (c .before)) (c .rotl1 .ensures)
 
 pub shift-spec : {M : Type 1} → statement M
 shift-spec =
