@@ -60,10 +60,6 @@ made m t l h b =
     ∙ whole-keep m (suc n) t (omega arith) (omega arith)
 
 -- words 0 to 15 are the block's own
-pub own : (m : List ℕ) (t : ℕ) → t < length m → getD m t 0 ≡ getD (scheduleOf m 64) t 0
-unfolding scheduleOf
-own m t h = whole-keep m 0 t (omega arith) (omega arith)
-
 schedule-front : (m : List ℕ) (n : ℕ) → take (length m) (scheduleOf m n) ≡ m
 unfolding scheduleOf
 schedule-front m zero = take-all (length m) m (omega arith)
@@ -73,15 +69,9 @@ pub kept-own : (m : List ℕ) → length m ≡ 16 → keptAt m 15 ≡ m
 unfolding keptAt
 kept-own m l = ap (λ (k : ℕ). take k (scheduleOf m 64)) (sym l) ∙ schedule-front m 64
 
-kept-word : (m : List ℕ) (t i : ℕ) → i < 16 → getD (keptAt m t) i 0 ≡ getD (scheduleOf m 64) (t - 15 + i) 0
+pub kept-word : (m : List ℕ) (t i : ℕ) → i < 16 → getD (keptAt m t) i 0 ≡ getD (scheduleOf m 64) (t - 15 + i) 0
 unfolding keptAt
 kept-word m t i h = getD-take 16 (drop (t - 15) (scheduleOf m 64)) i 0 h ∙ getD-drop (t - 15) (scheduleOf m 64) i 0
-
--- the last word kept is the one made last
-pub kept-last : (m : List ℕ) (t : ℕ) → 15 ≤ t → getD (keptAt m t) 15 0 ≡ getD (scheduleOf m 64) t 0
-kept-last m t h =
-    let e : t - 15 + 15 ≡ t = omega arith in
-    kept-word m t 15 (omega arith) ∙ ap (λ (k : ℕ). getD (scheduleOf m 64) k 0) e
 
 -- making word t of the words kept, and letting word t - 16 go
 module _ (m : List ℕ) (t : ℕ) (l : length m ≡ 16) (h : 16 ≤ t) (b : t < 80) (w : List ℕ) (e : w ≡ keptAt m (t - 1)) where

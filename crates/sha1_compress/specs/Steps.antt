@@ -27,9 +27,9 @@ keptAfter m (suc n) = madeOf (keptAfter m n)
 pub record Kept : Type 0 where
   pub kept : (m : List ℕ) (t : ℕ) → length m ≡ 16 → 15 ≤ t → t < 80 → keptAfter m (t - 15) ≡ keptAt m t
 
--- 6.1.2, step 3: what the code holds once word t is made and step t taken with it: the working variables after steps 0 to t, from h, and the words kept
+-- 6.1.2, step 3: what the code holds before step t, t up to 64: the working variables after the steps before it, from h, and words t to t + 15
 unfoldable pub workingAt : List ℕ → List ℕ → ℕ → Working
-workingAt h m t = record { state = stepsOf (scheduleOf m 64) h (suc t); words = keptAt m t }
+workingAt h m t = record { state = stepsOf (scheduleOf m 64) h t; words = keptAt m (t + 15) }
 
 -- 5.1.1: the last bytes p of a message of x bits, and its padding; what comes before p is whole blocks
 unfoldable pub closedOf : List ℕ → ℕ → List ℕ

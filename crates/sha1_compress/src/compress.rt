@@ -3,9 +3,9 @@ use sha1_words::word;
 use std::num::wrapping_add_u32;
 ghost use mathlib.Core.Path.{_≡_};
 ghost use mathlib.Core.List.{List};
-ghost use Prim.Native.Nat.{ℕ, _+_, _-_, _*_, _/_, _≤_, _<_};
+ghost use Prim.Native.Nat.{ℕ, _+_, _*_, _/_, _≤_, _<_};
 ghost use lib.ListN.{length};
-ghost use Rattle.sha1_compress.specs.Hash.{stepWith, stepOf, sumOf, compressOf};
+ghost use Rattle.sha1_compress.specs.Hash.{scheduleOf, stepWith, stepOf, stepsOf, sumOf, compressOf};
 ghost use Rattle.sha1_compress.specs.Steps.{madeOf, workingAt, Kept};
 
 // The working variables a to e, and the sixteen words kept.
@@ -58,34 +58,20 @@ fn stepped(stage: u8, s: [u32; 5], w: u32) -> [u32; 5]
     step(s, word::f(stage, s[1], s[2], s[3]), word::k(stage), w)
 }
 
-// Steps 0 to 15, which take the block's own words. The result and those words are what is held once word 15 is made.
-fn sixteen(h: [u32; 5], m: [u32; 16]) -> [u32; 5]
-    ensures { λ r. ⌜ workingAt h m 15 ≡ record { state = r; words = m } ⌝ }
-{
-    let mut s = h;
-    let mut t: usize = 0;
-    while t < 16 {
-        let u = stepped(0, s, m[t]);
-        s = u;
-        t += 1;
-    }
-    s
-}
-
-// Word t is made, and step t taken with it, for t from 16 to 79.
+// Step t with word t, the first of those kept; and word t + 16 is made.
 fn turn(stage: u8, r: Working) -> Working
-    ensures { λ x. ⌜ ((h m : List ℕ) (t : ℕ) → length m ≡ 16 → 16 ≤ t → t < 80 → t / 20 ≡ stage → r ≡ workingAt h m (t - 1) → x ≡ workingAt h m t) ⌝ }
+    ensures { λ x. ⌜ ((h m : List ℕ) (t : ℕ) → length m ≡ 16 → t < 64 → t / 20 ≡ stage → r ≡ workingAt h m t → x ≡ workingAt h m (t + 1)) ⌝ }
 {
-    let old = r.words;
-    let w = shift(old);
     let s = r.state;
-    let u = stepped(stage, s, w[15]);
-    Working { state: u, words: w }
+    let w = r.words;
+    let u = stepped(stage, s, w[0]);
+    let v = shift(w);
+    Working { state: u, words: v }
 }
 
-// Words t to t + 3 are made, each with its step, all in one stage: four turns.
+// Steps t to t + 3, all in one stage: four turns.
 fn four(stage: u8, r: Working) -> Working
-    ensures { λ x. ⌜ ((h m : List ℕ) (t : ℕ) → length m ≡ 16 → 16 ≤ t → t + 3 < 80 → t / 20 ≡ stage → (t + 3) / 20 ≡ stage → r ≡ workingAt h m (t - 1) → x ≡ workingAt h m (t + 3)) ⌝ }
+    ensures { λ x. ⌜ ((h m : List ℕ) (t : ℕ) → length m ≡ 16 → t + 3 < 64 → t / 20 ≡ stage → (t + 3) / 20 ≡ stage → r ≡ workingAt h m t → x ≡ workingAt h m (t + 4)) ⌝ }
 {
     let a = turn(stage, r);
     let b = turn(stage, a);
@@ -93,15 +79,30 @@ fn four(stage: u8, r: Working) -> Working
     turn(stage, c)
 }
 
-// The twenty words and steps of stage 1, 2 or 3.
+// The twenty steps of stage 0, 1 or 2.
 fn twenty(stage: u8, r: Working) -> Working
-    ensures { λ x. ⌜ ((h m : List ℕ) → length m ≡ 16 → 1 ≤ stage → stage ≤ 3 → r ≡ workingAt h m (20 * stage - 1) → x ≡ workingAt h m (20 * stage + 19)) ⌝ }
+    ensures { λ x. ⌜ ((h m : List ℕ) → length m ≡ 16 → stage ≤ 2 → r ≡ workingAt h m (20 * stage) → x ≡ workingAt h m (20 * stage + 20)) ⌝ }
 {
     let a = four(stage, r);
     let b = four(stage, a);
     let c = four(stage, b);
     let d = four(stage, c);
     four(stage, d)
+}
+
+// Steps 64 to 79. All words are made, and each is taken where it stands.
+fn last(r: Working) -> [u32; 5]
+    ensures { λ x. ⌜ ((h m : List ℕ) → length m ≡ 16 → r ≡ workingAt h m 64 → x ≡ stepsOf (scheduleOf m 64) h 80) ⌝ }
+{
+    let w = r.words;
+    let mut s = r.state;
+    let mut i: usize = 0;
+    while i < 16 {
+        let u = stepped(3, s, w[i]);
+        s = u;
+        i += 1;
+    }
+    s
 }
 
 // The working variables added to the hash value before the block.
@@ -120,13 +121,12 @@ fn sum(s: [u32; 5], h: [u32; 5]) -> [u32; 5]
 pub fn compress(h: [u32; 5], m: [u32; 16]) -> [u32; 5]
     ensures { λ r. ⌜ r ≡ compressOf h m ⌝ }
 {
-    let s = sixteen(h, m);
-    let r = Working { state: s, words: m };
-    let a = four(0, r);
+    let r = Working { state: h, words: m };
+    let a = twenty(0, r);
     let b = twenty(1, a);
     let c = twenty(2, b);
-    let d = twenty(3, c);
-    let u = d.state;
+    let d = four(3, c);
+    let u = last(d);
     sum(u, h)
 }
 
