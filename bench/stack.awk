@@ -1,5 +1,5 @@
 # The measured lines of bench/stack to bench/STACK.md.
-# library SUM, and for each policy: POLICY PROTECT UNPROTECT FORGED REPEATED MAKE ADD FIND
+# library SUM, and for each policy: POLICY PROTECT UNPROTECT FORGED REPEATED MAKE ADD FIND STRETCH
 function thousands(n) {
     return n < 1000 ? n : int(n / 1000) "," sprintf("%03d", n % 1000)
 }
@@ -32,4 +32,5 @@ END {
     row("make", 5)
     row("add", 6)
     row("find", 7)
+    row("stretch, which knows no policy", 8)
 }

@@ -9,6 +9,7 @@ function told(call, a, w, k) {
     if (call == "add") return w[1] == 0 ? "added" : refused(w[1])
     if (call == "protect") return w[1] == 0 ? w[2] " bytes to send: " shown(w[3], w[2]) : refused(w[1])
     if (call == "unprotect") return w[1] == 0 ? "given back, " w[2] " bytes: " shown(w[3], w[2]) : refused(w[1])
+    if (call == "stretch") return w[1] == 0 ? "done: " short(w[2]) : refused(w[1])
     return a
 }
 function asked(w) {
@@ -16,6 +17,7 @@ function asked(w) {
     if (w[1] == "add") return "add stream " w[3] (w[4] == "s" ? " to send" : " to receive") " in session " w[2]
     if (w[1] == "protect") return "protect in session " w[2] ", " w[3] " bytes: " shown(w[4], w[3])
     if (w[1] == "unprotect") return "unprotect in session " w[2] ", " w[3] " bytes: " shown(w[4], w[3])
+    if (w[1] == "stretch") return "keystream of stream " w[4] ", index " w[5] ", from byte " w[6] " on, over " short(w[7])
     return $0
 }
 BEGIN {

@@ -10,7 +10,8 @@
  *
  * What a call can rely on, and what it need not: any length, number, packet or session memory may be passed, also memory that was never made or was
  * overwritten: it then counts as a session without streams, or as whatever session it happens to hold, and no call reads or writes outside what it
- * was lent. A refusal changes nothing (but delugash_make refused with _KEYS or _POLICY leaves a session that takes no stream). The caller's duty is only this:
+ * was lent. A refusal changes nothing (but delugash_make refused with _KEYS or _POLICY leaves a session that takes no stream). The caller's duty as to memory is only this (delugash_stretch lays
+ * another on you: see its warning):
  *   - as much memory as its length says belongs to a pointer; where the length is 0, the pointer may be anything, NULL too;
  *   - memory that a call may write (session, buf) overlaps no other memory of the same call;
  *   - no two threads are in calls on the same session at the same time. Calls on different sessions share nothing.
@@ -55,7 +56,7 @@ enum {
     DELUGASH_RECEIVING = 1
 };
 
-/* What calls give back. Where several apply: DELUGASH_MEMORY, then DELUGASH_WAY, then the smallest number. */
+/* What calls give back. Where several apply: DELUGASH_MEMORY, DELUGASH_WAY or DELUGASH_SIZES, in this order, then the smallest number. */
 enum {
     DELUGASH_OK = 0,
     DELUGASH_LENGTH = 1,    /* n is more than the buffer's length */
@@ -64,7 +65,7 @@ enum {
     DELUGASH_HEADER = 4,    /* contributors, extension header or block pass the packet's end (unprotect: the tag's start) */
     DELUGASH_PROFILE = 5,   /* protect: Cryptex cannot carry this extension; unprotect, required Cryptex: contributors or an extension in the clear */
     DELUGASH_ELEMENT = 6,   /* an extension element runs past its block */
-    DELUGASH_LARGE = 7,     /* the protected packet is over 2,048 bytes */
+    DELUGASH_LARGE = 7,     /* the protected packet is over 2,048 bytes; stretch: start + length is over 2^20 */
     DELUGASH_ROOM = 8,      /* the buffer is shorter than the protected packet */
     DELUGASH_STREAM = 9,    /* no stream for this SSRC and this way */
     DELUGASH_ORDER = 10,    /* protect: the sequence number does not go forward by 1 to 32,767 */
@@ -78,7 +79,8 @@ enum {
     DELUGASH_FULL = 18,     /* add: 32 streams already */
     DELUGASH_ABSENT = 19,   /* find: no such element */
     DELUGASH_MEMORY = 100,  /* the session's memory is not DELUGASH_WORDS words */
-    DELUGASH_WAY = 101      /* add: the way is neither sending nor receiving */
+    DELUGASH_WAY = 101,     /* add: the way is neither sending nor receiving */
+    DELUGASH_SIZES = 102    /* stretch: the key is not 16 bytes or the salt not 14 */
 };
 
 typedef struct {
@@ -114,6 +116,26 @@ delugash_answer delugash_unprotect(uint64_t *words, size_t word_count, uint8_t *
 
 /* Finds the first header extension element with an id in a plain packet: not one that is still protected. Ids are 1 to 255; any other is absent. */
 delugash_part delugash_find(const uint8_t *packet, size_t length, uint32_t id);
+
+/* The keystream alone, for who encrypts a packet's front and back in separate moments: XORs onto buf[0 .. length) the AES-CM keystream of RFC 3711, 4.1.1, from its
+ * byte `start` on. It uses no session. The same call decrypts. Two stretches that meet give what the joined one gives, wherever the joined one is not refused.
+ *   - key and salt are those that RFC 3711, 4.3, derives for the session, 16 and 14 bytes. The library hands none out. Never pass the master ones: their keystream
+ *     is the session keys.
+ *   - index is the packet's: rollover counter * 65,536 + sequence number, below 2^48. A larger one is not refused, and is no packet's: its upper bits go onto the
+ *     SSRC, so that it gives another SSRC's keystream. Never pass one.
+ *   - start is 0 for the first byte that is encrypted, which is not the packet's first: the payload's or, under Cryptex, the first contributor's. The extension header
+ *     uses none, so that block and payload follow at 4 * CC.
+ * Gives DELUGASH_OK; or _SIZES; or _LARGE where start + length is over 2^20, also for length 0. Look at the number: with a refusal the buffer is as it was, in clear, and of two
+ * stretches the front can be encrypted while the back is refused.
+ *
+ * WARNING: keystream that is used twice gives the audio away. Whoever catches two buffers that were encrypted with the same bytes of keystream has the XOR of their plain
+ * bytes without any key, which is mostly enough for both; who knows one has the other at once. So under one key and salt, byte k of the keystream of one SSRC and index
+ * may never encrypt two different plain bytes: not in another stretch, not in a packet that delugash_protect sends under the same keys, not after a restart, not in
+ * another box. Decrypting is no second use. And stretches of one packet may meet but must not overlap: a byte that gets its keystream twice is in clear again.
+ * A session counts this for the packets that it sends itself; of stretches nothing is remembered. Nor does a stretch authenticate: bytes that were changed on their way
+ * decrypt without a refusal. Where delugash_protect will do, use that. */
+uint32_t delugash_stretch(const uint8_t *key, size_t key_length, const uint8_t *salt, size_t salt_length, uint32_t ssrc, uint64_t index,
+    uint64_t start, uint8_t *buf, size_t length);
 
 #ifdef __cplusplus
 }

@@ -1,23 +1,15 @@
 //! `reference count`: runs a script and tells how often each kind of line was answered with each
-//! number, and which refusals of document 01 never came. In two places it tells a little more.
-//! PROFILE on unprotect is one number for two conditions; and under the mask, what protect does
-//! depends on how the elements lie against the keystream's blocks.
+//! number, and which refusals of the papers never came. Of some answers it tells parts, too.
 
-use crate::aes::BLOCK;
-use crate::elements;
-use crate::header::{self, X_BIT};
 use crate::lines;
-use crate::packet;
+use crate::parts::{self, Part, Parts};
 use crate::refusal::Refusal::{self, *};
 use crate::script::Desk;
-use crate::session::Session;
-use crate::words;
 use std::collections::BTreeMap;
 use std::io::{self, BufRead, Write};
-use std::ops::Range;
 
-/// The kinds of line in the table, with the refusals that document 01 lets each give.
-const KINDS: [(&str, &[Refusal]); 9] = [
+/// The kinds of line in the table, with the refusals that documents 01 and 02 let each give.
+const KINDS: [(&str, &[Refusal]); 10] = [
     ("make", &[Keys, Policy]),
     ("add", &[Keys, Twice, Full]),
     (
@@ -31,38 +23,16 @@ const KINDS: [(&str, &[Refusal]); 9] = [
     ("find", &[Short, Version, Header, Element, Absent]),
     ("guess", &[Worn, Old, Repeat]),
     ("mask", &[Element]),
+    ("stretch", &[Large]),
     ("state", &[]),
     ("?", &[]),
-];
-
-/// Some of the lines of this kind that were answered with this number.
-type Part = (&'static str, u64, &'static str);
-
-/// The two conditions of PROFILE on unprotect, and the other side of the one on contributors.
-const CONTRIBUTORS_IN_CLEAR: Part = ("unprotect", Profile as u64, "X = 0, CC > 0");
-const EXTENSION_IN_CLEAR: Part = ("unprotect", Profile as u64, "X = 1");
-const NOTHING_TO_HIDE: Part = ("unprotect", 0, "policy 2, X = 0");
-
-/// Packets sent under policy 3: a listed element's data goes on past a multiple of 16, or begins
-/// more than 16 bytes behind the last listed data or the block's begin; a block over 64 bytes.
-const MASK_CROSSES: Part = ("protect", 0, "mask crosses 16");
-const MASK_SKIPS: Part = ("protect", 0, "mask skips > 16");
-const MASK_LONG: Part = ("protect", 0, "mask block > 64");
-
-const PARTS: [Part; 6] = [
-    MASK_CROSSES,
-    MASK_SKIPS,
-    MASK_LONG,
-    NOTHING_TO_HIDE,
-    CONTRIBUTORS_IN_CLEAR,
-    EXTENSION_IN_CLEAR,
 ];
 
 /// How often each (kind, number) was answered, and each part.
 #[derive(Default)]
 pub struct Tally {
     counts: BTreeMap<(String, u64), u64>,
-    parts: BTreeMap<Part, u64>,
+    parts: Parts,
 }
 
 impl Tally {
@@ -73,9 +43,7 @@ impl Tally {
         // For `state` the number is MADE, for `?` there is none and 0 stands in.
         let number = String::from_utf8_lossy(first_word(answer)).parse().unwrap_or(0);
         let kind = String::from_utf8_lossy(kind).into_owned();
-        for part in parts(desk, line, &kind, number).unwrap_or_default() {
-            *self.parts.entry(part).or_default() += 1;
-        }
+        self.parts.note(desk, line, &kind, number);
         if kind != "case" {
             *self.counts.entry((kind, number)).or_default() += 1;
         }
@@ -85,19 +53,9 @@ impl Tally {
         self.counts.get(&(kind.to_string(), number)).copied().unwrap_or(0)
     }
 
-    fn part_count(&self, part: Part) -> u64 {
-        self.parts.get(&part).copied().unwrap_or(0)
-    }
-
-    /// How many packets policy 2 refused for contributors without an extension.
-    pub fn contributors_in_clear(&self) -> u64 {
-        self.part_count(CONTRIBUTORS_IN_CLEAR)
-    }
-
-    /// How many packets sent under the mask had data across a multiple of 16, data behind a gap of
-    /// more than 16 bytes, a block of more than 64 bytes.
-    pub fn masks(&self) -> [u64; 3] {
-        [MASK_CROSSES, MASK_SKIPS, MASK_LONG].map(|part| self.part_count(part))
+    /// How often a part came.
+    pub fn part_count(&self, part: Part) -> u64 {
+        self.parts.count(part)
     }
 
     fn answers_of<'a>(&'a self, kind: &'a str) -> impl Iterator<Item = (u64, u64)> + 'a {
@@ -115,7 +73,7 @@ impl Tally {
                 }
             }
         }
-        for part in PARTS {
+        for part in parts::all() {
             if self.part_count(part) == 0 {
                 absent.push(format!("{} {} {}", part.0, part.1, part.2));
             }
@@ -140,67 +98,11 @@ impl Tally {
     }
 
     fn write_parts(&self, kind: &str, number: u64, output: &mut impl Write) -> io::Result<()> {
-        for part in PARTS.iter().filter(|part| part.0 == kind && part.1 == number) {
-            writeln!(output, "     {:<16} {:>6}", part.2, self.part_count(*part))?;
+        for part in parts::all().filter(|part| part.0 == kind && part.1 == number) {
+            writeln!(output, "     {:<16} {:>6}", part.2, self.part_count(part))?;
         }
         Ok(())
     }
-}
-
-/// The parts a readable line of this kind belongs to, with its packet as it was handed over.
-fn parts(desk: &Desk, line: &[u8], kind: &str, number: u64) -> Option<Vec<Part>> {
-    let words = words::split(line)?;
-    let [_, session, n, buffer] = words[..] else {
-        return None;
-    };
-    match kind {
-        "protect" if number == 0 => {
-            let (session, n) = (desk.session(session)?, words::number(n)?);
-            mask_parts(session, words::buffer(buffer)?.get(..usize::try_from(n).ok()?)?)
-        }
-        "unprotect" => {
-            let first = *words::buffer(buffer)?.first()?;
-            let part = required_part(desk.session(session)?, first)?;
-            Some(if part.1 == number { vec![part] } else { Vec::new() })
-        }
-        _ => None,
-    }
-}
-
-/// What policy 2 has to look at, by the first byte of a packet as it arrived.
-fn required_part(session: &Session, first: u8) -> Option<Part> {
-    let is_required = session.policy() == packet::Policy::CryptexRequired;
-    let (has_extension, has_contributors) = (first & X_BIT != 0, first & 0x0f != 0);
-    let part = match (has_extension, has_contributors) {
-        (true, _) => EXTENSION_IN_CLEAR,
-        (false, true) => CONTRIBUTORS_IN_CLEAR,
-        (false, false) => NOTHING_TO_HIDE,
-    };
-    is_required.then_some(part)
-}
-
-/// How the mask lies over a packet that was sent. Empty elements have nothing to mask.
-fn mask_parts(session: &Session, packet: &[u8]) -> Option<Vec<Part>> {
-    if session.policy() != packet::Policy::Mask {
-        return None;
-    }
-    let extension = header::read(packet).ok()?.extension?;
-    let block = &packet[extension.block];
-    let mut listed = elements::read(extension.tag, block).ok()?;
-    listed.retain(|element| session.ids().contains(&element.id) && !element.data.is_empty());
-    let data: Vec<Range<usize>> = listed.into_iter().map(|element| element.data).collect();
-    let ends = [0].into_iter().chain(data.iter().map(|data| data.end));
-    let mut parts = Vec::new();
-    if data.iter().any(|data| data.start / BLOCK < (data.end - 1) / BLOCK) {
-        parts.push(MASK_CROSSES);
-    }
-    if data.iter().zip(ends).any(|(data, last)| data.start - last > BLOCK) {
-        parts.push(MASK_SKIPS);
-    }
-    if block.len() > 64 {
-        parts.push(MASK_LONG);
-    }
-    Some(parts)
 }
 
 fn first_word(line: &[u8]) -> &[u8] {

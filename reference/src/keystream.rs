@@ -1,11 +1,15 @@
-//! AES counter mode and the session keys, after RFC 3711 sections 4.1.1 and 4.3 (key derivation
-//! rate 0) and, for the header key and salt, RFC 6904 section 3.
+//! AES counter mode, packets' keystreams and the session keys, after RFC 3711 sections 4.1.1 and 4.3
+//! (key derivation rate 0), change request 6 and, for the header key and salt, RFC 6904 section 3.
 
 use crate::aes::{Aes, BLOCK};
+use crate::refusal::{refuse_if, Refusal};
 
 pub const KEY: usize = 16;
 pub const SALT: usize = 14;
 pub const AUTHENTICATION: usize = 20;
+
+/// Bytes in one packet's keystream: the counter has 16 bits, so there are 2^16 blocks.
+pub const STREAM_END: u128 = 1 << 20;
 
 /// `length` keystream bytes: the counter block starts at `start` and grows by 1 per block.
 pub fn aes_cm(key: &[u8; KEY], start: u128, length: usize) -> Vec<u8> {
@@ -38,9 +42,33 @@ pub fn derive<const N: usize>(master: &[u8; KEY], salt: &[u8; SALT], label: u8) 
     key
 }
 
-/// RFC 3711 section 4.1.1: salt * 2^16 XOR SSRC * 2^64 XOR index * 2^16.
-fn packet_start(salt: &[u8; SALT], ssrc: u32, index: u128) -> u128 {
-    salt_block(salt) ^ (u128::from(ssrc) << 64) ^ (index << 16)
+/// One packet's keystream, or its second one: all that its bytes depend on.
+#[derive(Clone, PartialEq, Eq)]
+pub struct Keystream {
+    pub key: [u8; KEY],
+    pub salt: [u8; SALT],
+    pub ssrc: u32,
+    /// Below 2^48.
+    pub index: u128,
+}
+
+impl Keystream {
+    /// RFC 3711 section 4.1.1: salt * 2^16 XOR SSRC * 2^64 XOR index * 2^16.
+    fn first_block(&self) -> u128 {
+        salt_block(&self.salt) ^ (u128::from(self.ssrc) << 64) ^ (self.index << 16)
+    }
+
+    /// `length` bytes from byte `start` on, or LARGE where they end past the keystream's end.
+    pub fn stretch(&self, start: u64, length: usize) -> Result<Vec<u8>, Refusal> {
+        let start = u128::from(start);
+        // In 128 bits, because the sum of any start and a length may not fit 64.
+        refuse_if(start + length as u128 > STREAM_END, Refusal::Large)?;
+        let (block, skipped) = (start / BLOCK as u128, (start % BLOCK as u128) as usize);
+        // An empty stretch at 2^20 begins a block past the last one. The sum may wrap there, and no
+        // block is made of it.
+        let counter = self.first_block().wrapping_add(block);
+        Ok(aes_cm(&self.key, counter, skipped + length).split_off(skipped))
+    }
 }
 
 /// What a session derives from its master key and salt.
@@ -65,14 +93,12 @@ impl SessionKeys {
     }
 
     /// The keystream for contributors, block and payload.
-    pub fn packet_stream(&self, ssrc: u32, index: u128, length: usize) -> Vec<u8> {
-        let start = packet_start(&self.cipher_salt, ssrc, index);
-        aes_cm(&self.cipher_key, start, length)
+    pub fn packet_stream(&self, ssrc: u32, index: u128) -> Keystream {
+        Keystream { key: self.cipher_key, salt: self.cipher_salt, ssrc, index }
     }
 
     /// RFC 6904's second keystream, for the extension block from its first byte on.
-    pub fn header_stream(&self, ssrc: u32, index: u128, length: usize) -> Vec<u8> {
-        let start = packet_start(&self.header_salt, ssrc, index);
-        aes_cm(&self.header_key, start, length)
+    pub fn header_stream(&self, ssrc: u32, index: u128) -> Keystream {
+        Keystream { key: self.header_key, salt: self.header_salt, ssrc, index }
     }
 }

@@ -76,17 +76,17 @@ pub fn protect(context: &Context, packet: &[u8]) -> Result<Vec<u8>, Refusal> {
         header = header::read(&bytes)?;
     }
     match context.policy {
-        Policy::Plain => encrypt_payload(context, &header, &mut bytes),
+        Policy::Plain => encrypt_payload(context, &header, &mut bytes)?,
         Policy::Cryptex | Policy::CryptexRequired => match &header.extension {
-            None => encrypt_payload(context, &header, &mut bytes),
+            None => encrypt_payload(context, &header, &mut bytes)?,
             Some(extension) => {
-                encrypt_cryptex(context, &header, extension, &mut bytes);
+                encrypt_cryptex(context, &header, extension, &mut bytes)?;
                 put_tag(&mut bytes, extension, cryptex_tag(extension.tag));
             }
         },
         Policy::Mask => {
             encrypt_masked(context, &header, &mut bytes)?;
-            encrypt_payload(context, &header, &mut bytes);
+            encrypt_payload(context, &header, &mut bytes)?;
         }
     }
     // The tag is made last: it covers the bytes as they are sent.
@@ -101,14 +101,14 @@ pub fn unprotect(context: &Context, wire: &[u8]) -> Result<Vec<u8>, Refusal> {
     let header = header::read(&bytes)?;
     match cryptex_extension(context.policy, &header) {
         Some(extension) => {
-            encrypt_cryptex(context, &header, extension, &mut bytes);
+            encrypt_cryptex(context, &header, extension, &mut bytes)?;
             put_tag(&mut bytes, extension, plain_tag(extension.tag));
         }
         None => {
             if context.policy == Policy::Mask {
                 encrypt_masked(context, &header, &mut bytes)?;
             }
-            encrypt_payload(context, &header, &mut bytes);
+            encrypt_payload(context, &header, &mut bytes)?;
         }
     }
     Ok(bytes)
@@ -160,26 +160,37 @@ fn add_empty_block(bytes: &mut Vec<u8>, header: &Header) {
     bytes.splice(place..place, [0xbe, 0xde, 0, 0]);
 }
 
-/// XORs the bytes at the given places, in their order, with one unbroken keystream.
-fn encrypt_places(context: &Context, header: &Header, bytes: &mut [u8], places: &[usize]) {
-    let index = context.index.unsigned_abs();
-    let stream = context.keys.packet_stream(header.ssrc, index, places.len());
-    for (place, key_byte) in places.iter().zip(stream) {
+/// XORs the bytes at the given places, in their order, with one unbroken keystream. A packet has at
+/// most 2,048 bytes, so no stretch of its keystream is refused.
+fn encrypt_places(
+    context: &Context,
+    header: &Header,
+    bytes: &mut [u8],
+    places: &[usize],
+) -> Result<(), Refusal> {
+    let keystream = context.keys.packet_stream(header.ssrc, context.index.unsigned_abs());
+    for (place, key_byte) in places.iter().zip(keystream.stretch(0, places.len())?) {
         bytes[*place] ^= key_byte;
     }
+    Ok(())
 }
 
-fn encrypt_payload(context: &Context, header: &Header, bytes: &mut [u8]) {
+fn encrypt_payload(context: &Context, header: &Header, bytes: &mut [u8]) -> Result<(), Refusal> {
     let places: Vec<usize> = (header.payload..bytes.len()).collect();
-    encrypt_places(context, header, bytes, &places);
+    encrypt_places(context, header, bytes, &places)
 }
 
 /// Contributors, block and payload; the four bytes of the extension header use up no keystream.
-fn encrypt_cryptex(context: &Context, header: &Header, extension: &Extension, bytes: &mut [u8]) {
+fn encrypt_cryptex(
+    context: &Context,
+    header: &Header,
+    extension: &Extension,
+    bytes: &mut [u8],
+) -> Result<(), Refusal> {
     let contributors = header.contributors.clone();
     let rest = extension.block.start..bytes.len();
     let places: Vec<usize> = contributors.chain(rest).collect();
-    encrypt_places(context, header, bytes, &places);
+    encrypt_places(context, header, bytes, &places)
 }
 
 /// XORs block byte k with byte k of the header keystream where the mask is FF. Ids and lengths are
@@ -190,8 +201,8 @@ fn encrypt_masked(context: &Context, header: &Header, bytes: &mut [u8]) -> Resul
     };
     let block = &mut bytes[extension.block.clone()];
     let mask = elements::mask(extension.tag, block, context.ids)?;
-    let index = context.index.unsigned_abs();
-    let stream = context.keys.header_stream(header.ssrc, index, block.len());
+    let keystream = context.keys.header_stream(header.ssrc, context.index.unsigned_abs());
+    let stream = keystream.stretch(0, block.len())?;
     for k in 0..block.len() {
         block[k] ^= stream[k] & mask[k];
     }

@@ -7,6 +7,7 @@ use crate::index::{self, Ledger};
 use crate::lines;
 use crate::refusal::{number, Refusal};
 use crate::session::{Record, Session, Way};
+use crate::stretch::Stretch;
 use crate::words;
 use std::io::{self, BufRead, Write};
 
@@ -64,6 +65,7 @@ impl Desk {
             (b"state", [session]) => self.state(session)?,
             (b"guess", [highest, sequence]) => guess(highest, sequence)?,
             (b"mask", [tag, block, ids]) => mask(tag, block, ids)?,
+            (b"stretch", words) => stretch(words)?,
             _ => return None,
         };
         Some(answer.into_bytes())
@@ -169,6 +171,13 @@ fn mask(tag: &[u8], block: &[u8], ids: &[u8]) -> Option<String> {
     let result = elements::mask(tag, &block, &ids);
     let number = number(&result);
     Some(format!("{number} {}", hex::write(&result.unwrap_or_default())))
+}
+
+/// `NO DATA`. With a refusal the data is as it was read.
+fn stretch(words: &[&[u8]]) -> Option<String> {
+    let mut stretch = Stretch::read(words)?;
+    let result = stretch.encrypt();
+    Some(format!("{} {}", number(&result), hex::write(&stretch.data)))
 }
 
 /// Answers a whole script.

@@ -55,8 +55,12 @@ pub fn id(word: &[u8]) -> Option<u8> {
     number(word)?.try_into().ok()
 }
 
+pub fn index(word: &[u8]) -> Option<u64> {
+    number_up_to(word, (1 << 48) - 1)
+}
+
 pub fn highest(word: &[u8]) -> Option<i128> {
-    Some(i128::from(number_up_to(word, (1 << 48) - 1)?))
+    Some(i128::from(index(word)?))
 }
 
 pub fn way(word: &[u8]) -> Option<Way> {
@@ -79,7 +83,7 @@ pub fn tag(word: &[u8]) -> Option<u16> {
     Some(u16::from_be_bytes(bytes.try_into().ok()?))
 }
 
-/// A buffer, a packet or a block.
+/// A buffer, a packet, a block, or the data of `stretch`.
 pub fn buffer(word: &[u8]) -> Option<Vec<u8>> {
     hex::read(word, LONGEST_BUFFER)
 }
@@ -87,4 +91,9 @@ pub fn buffer(word: &[u8]) -> Option<Vec<u8>> {
 /// A KEY, a SALT or IDS.
 pub fn key(word: &[u8]) -> Option<Vec<u8>> {
     hex::read(word, LONGEST_KEY)
+}
+
+/// A KEY or a SALT that has to have its length.
+pub fn key_of<const N: usize>(word: &[u8]) -> Option<[u8; N]> {
+    key(word)?.try_into().ok()
 }

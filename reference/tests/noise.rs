@@ -1,6 +1,7 @@
 //! Noise never panics and is answered line by line; random scripts hold what they promise.
 
 use reference::count::Tally;
+use reference::parts::{CONTRIBUTORS_IN_CLEAR, MASKS, STRETCHES};
 use reference::random;
 use reference::random::dice::Dice;
 use reference::random::spoil::spoiled;
@@ -59,8 +60,10 @@ fn damaged_scripts() {
 #[test]
 fn spoiled_lines_are_unreadable() {
     let mut dice = Dice::new(3);
-    let lines = ["state 0", "protect 0 12 800000", "make 0 - - 0 -", "mask bede - -", "find 1 -"];
-    for _ in 0..3_000 {
+    let stretch = format!("stretch {} {} 00000000 0 0 ab", "00".repeat(16), "00".repeat(14));
+    let lines =
+        ["state 0", "protect 0 12 800000", "make 0 - - 0 -", "mask bede - -", "find 1 -", &stretch];
+    for _ in 0..4_000 {
         let line = dice.pick(&lines);
         let spoiled = spoiled(&mut dice, line);
         let answer = Desk::default().answer(&spoiled);
@@ -91,8 +94,11 @@ fn random_scripts_of_20_000_calls_meet_every_refusal() {
         }
         assert_eq!(tally.absent(), Vec::<String>::new());
         // Change request 2 is seen often enough to show how it stands to the other refusals.
-        assert!(tally.contributors_in_clear() >= 100);
-        // So is the mask where it goes past, over or far along the keystream's blocks.
-        assert!(tally.masks().iter().all(|count| *count >= 50), "{:?}", tally.masks());
+        assert!(tally.part_count(CONTRIBUTORS_IN_CLEAR) >= 100);
+        // So is the mask where it goes past, over or far along the keystream's blocks, and so are
+        // stretches at the keystream's end and inside its blocks.
+        for part in MASKS.into_iter().chain(STRETCHES) {
+            assert!(tally.part_count(part) >= 50, "{part:?} {}", tally.part_count(part));
+        }
     }
 }

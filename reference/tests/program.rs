@@ -53,6 +53,12 @@ fn counts_what_is_absent() {
     for part in ["mask crosses 16", "mask skips > 16", "mask block > 64"] {
         assert!(table.contains(&format!("absent: protect 0 {part}\n")));
     }
+    for part in ["0 ends at 2^20", "0 out of a block", "0 joins in a block"] {
+        assert!(table.contains(&format!("absent: stretch {part}\n")));
+    }
+    for part in ["LARGE", "ends at 2^20 + 1", "length 0", "end past 64 bits"] {
+        assert!(table.contains(&format!("absent: stretch 7 {part}\n")));
+    }
 }
 
 /// Every refusal comes here, but not each condition of one.
@@ -145,6 +151,66 @@ fn counts_the_parts_of_protect() {
         "     mask skips > 16       2",
         "     mask block > 64       1",
         "  10 ORDER          20",
+    ];
+    assert!(table.contains(&expected.join("\n")), "{table}");
+}
+
+/// Stretches on both sides of each condition.
+#[test]
+fn counts_the_parts_of_stretch() {
+    let keys = format!("{} {}", "00".repeat(16), "00".repeat(14));
+    let line = |index: u64, start: u64, length: usize| {
+        let data = if length == 0 { "-".to_string() } else { "ab".repeat(length) };
+        format!("stretch {keys} 00000000 {index} {start} {data}\n")
+    };
+    let end = 1 << 20;
+    let stretches = [
+        // Up to one before the end, the end, and one and two past it; no bytes at the same places.
+        line(0, end - 17, 16),
+        line(1, end - 16, 16),
+        line(0, end - 15, 16),
+        line(0, end - 14, 16),
+        line(0, end - 1, 0),
+        line(0, end, 0),
+        line(0, end + 1, 0),
+        line(0, u64::MAX, 0),
+        // Sums of 2^64 - 1, 2^64 and 2^64 + 1.
+        line(0, u64::MAX - 2, 2),
+        line(0, u64::MAX - 1, 2),
+        line(0, u64::MAX, 2),
+        // From a block's begin over its end; from inside up to its end, and past it.
+        line(0, 32, 17),
+        line(0, 33, 15),
+        line(0, 33, 16),
+        // Next to the last one: at a block's begin, in a block, of another index.
+        line(0, 0, 16),
+        line(0, 16, 2),
+        line(0, 18, 3),
+        line(1, 21, 1),
+        // Not next: a gap, the same place, no bytes, behind one of no bytes or a refused one.
+        line(1, 23, 1),
+        line(1, 23, 1),
+        line(1, 24, 0),
+        line(1, 24, 1),
+        line(1, end, 1),
+        line(1, 25, 1),
+        // What cannot be read is not the last one.
+        format!("stretch {keys} 0 0 0 ab\n"),
+        line(1, 26, 1),
+    ];
+    let table =
+        String::from_utf8(reference(&["count"], stretches.concat().as_bytes()).stdout).unwrap();
+    let expected = [
+        "stretch           25",
+        "   0 result         17",
+        "     ends at 2^20          2",
+        "     out of a block        2",
+        "     joins in a block      2",
+        "   7 LARGE           8",
+        "     ends at 2^20 + 1      3",
+        "     length 0              2",
+        "     end past 64 bits      2",
+        "state              0",
     ];
     assert!(table.contains(&expected.join("\n")), "{table}");
 }

@@ -34,7 +34,8 @@ fn header_key_and_salt() {
 
 #[test]
 fn header_keystream() {
-    assert_eq!(hex::write(&keys().header_stream(SSRC, INDEX, 24)), KEYSTREAM);
+    let stream = keys().header_stream(SSRC, INDEX).stretch(0, 24).unwrap();
+    assert_eq!(hex::write(&stream), KEYSTREAM);
 }
 
 #[test]

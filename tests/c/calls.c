@@ -1,4 +1,4 @@
-/* The C interface: published packets both ways, refusals, wrong memory, and memory that holds anything. */
+/* The C interface: published packets both ways, published keystream in stretches, refusals, wrong memory, and memory that holds anything. */
 #include "delugash.h"
 
 #include <stdint.h>
@@ -199,6 +199,8 @@ static void no_memory(void)
         CHECK(delugash_make(p, 0, p, 0, p, 0, 0, p, 0) == DELUGASH_MEMORY);
         CHECK(delugash_add(p, 0, 1, DELUGASH_SENDING, 0) == DELUGASH_MEMORY);
         CHECK(delugash_find(p, 0, 1).number == DELUGASH_SHORT);
+        CHECK(delugash_stretch(p, 0, p, 0, 1, 0, 0, p, 0) == DELUGASH_SIZES);
+        CHECK(delugash_stretch(key, sizeof key, salt, sizeof salt, 1, 0, 7, p, 0) == DELUGASH_OK);
         CHECK(memcmp(s, before, delugash_size() * sizeof *s) == 0);
     }
     for (int i = 0; i < 2; i++) {
@@ -221,6 +223,88 @@ static void finding(void)
     CHECK(delugash_find(packet, sizeof packet, 258).number == DELUGASH_ABSENT);
     CHECK(delugash_find(packet, 11, 2).number == DELUGASH_SHORT);
     CHECK(delugash_find(packet, 39, 2).number == DELUGASH_HEADER);
+}
+
+/* RFC 3711, B.2: session key and salt, and of the keystream for SSRC 0 and index 0 the blocks 0 to 2 and 65279 to 65281. */
+static const uint8_t stream_key[16] = "\x2b\x7e\x15\x16\x28\xae\xd2\xa6\xab\xf7\x15\x88\x09\xcf\x4f\x3c";
+static const uint8_t stream_salt[14] = "\xf0\xf1\xf2\xf3\xf4\xf5\xf6\xf7\xf8\xf9\xfa\xfb\xfc\xfd";
+static const struct {
+    uint64_t start;
+    uint8_t bytes[48];
+} published[2] = {
+    {0, "\xe0\x3e\xad\x09\x35\xc9\x5e\x80\xe1\x66\xb1\x6d\xd9\x2b\x4e\xb4\xd2\x35\x13\x16\x2b\x02\xd0\xf7"
+        "\x2a\x43\xa2\xfe\x4a\x5f\x97\xab\x41\xe9\x5b\x3b\xb0\xa2\xe8\xdd\x47\x79\x01\xe4\xfc\xa8\x94\xc0"},
+    {1044464, "\xec\x8c\xdf\x73\x98\x60\x7c\xb0\xf2\xd2\x16\x75\xea\x9e\xa1\xe4\x36\x2b\x7c\x3c\x67\x73\x51\x63"
+              "\x18\xa0\x77\xd7\xfc\x50\x73\xae\x6a\x2c\xc3\x78\x78\x89\x37\x4f\xbe\xb4\xc8\x1b\x17\xba\x6c\x44"},
+};
+
+/* A stretch of that keystream, on memory of exactly its length. */
+static uint32_t stretch(uint64_t start, uint8_t *bytes, size_t length)
+{
+    uint8_t *buf = malloc(length);
+    if (buf == NULL)
+        exit(2);
+    memcpy(buf, bytes, length);
+    uint32_t number = delugash_stretch(stream_key, sizeof stream_key, stream_salt, sizeof stream_salt, 0, 0, start, buf, length);
+    memcpy(bytes, buf, length);
+    free(buf);
+    return number;
+}
+
+/* Cut anywhere, the front and the back are what the whole is. */
+static void neighbouring_stretches(void)
+{
+    for (int i = 0; i < 2; i++)
+        for (size_t cut = 1; cut < 48; cut++) {
+            uint8_t buf[48] = {0};
+            CHECK(stretch(published[i].start + cut, buf + cut, 48 - cut) == DELUGASH_OK);
+            CHECK(stretch(published[i].start, buf, cut) == DELUGASH_OK);
+            CHECK(memcmp(buf, published[i].bytes, 48) == 0);
+        }
+}
+
+/* No index is refused. RFC 3711's equation has the upper bits of one above 2^48 meet the SSRC's lower ones: where the two are equal, they cancel each other. */
+static void index_above_a_packets(void)
+{
+    for (uint64_t high = 1; high <= 0xffff; high += 0x1111) {
+        uint8_t buf[48] = {0};
+        CHECK(delugash_stretch(stream_key, 16, stream_salt, 14, (uint32_t)high, high << 48, published[1].start, buf, 48) == DELUGASH_OK);
+        CHECK(memcmp(buf, published[1].bytes, 48) == 0);
+    }
+}
+
+/* RFC 9335, A.1.3, under the session key and salt of RFC 3711's B.3: contributors, and then block and payload, the extension header left out. */
+static void packet_in_two_stretches(void)
+{
+    static const uint8_t session_key[16] = "\xc6\x1e\x7a\x93\x74\x4f\x39\xee\x10\x73\x4a\xfe\x3f\xf7\xa0\x87";
+    static const uint8_t session_salt[14] = "\x30\xcb\xbc\x08\x86\x3d\x8c\x85\xd4\x9d\xb3\x4a\x9a\xe1";
+    uint8_t front[8] = "\x00\x01\xe2\x40\x00\x00\xb2\x6e";
+    uint8_t back[20] = "\x51\x00\x02\x00\xab\xab\xab\xab\xab\xab\xab\xab\xab\xab\xab\xab\xab\xab\xab\xab";
+    CHECK(delugash_stretch(session_key, 16, session_salt, 14, 0xcafebabe, 0x1238, 8, back, 20) == DELUGASH_OK);
+    CHECK(delugash_stretch(session_key, 16, session_salt, 14, 0xcafebabe, 0x1238, 0, front, 8) == DELUGASH_OK);
+    CHECK(memcmp(front, "\x8b\xb6\xe1\x2b\x5c\xff\x16\xdd", 8) == 0);
+    CHECK(memcmp(back, "\x92\x83\x8c\x8c\x09\xe5\x83\x93\xe1\xde\x3a\x9a\x74\x73\x4d\x67\x45\x67\x13\x38", 20) == 0);
+}
+
+static void refused_stretches(void)
+{
+    static const uint64_t too_far[] = {1048576 - 47, 1048576, 1048577, UINT64_MAX - 48, UINT64_MAX - 47, UINT64_MAX};
+    uint8_t buf[48], before[48];
+    memset(before, 0xab, sizeof before);
+    memcpy(buf, before, sizeof buf);
+    for (size_t i = 0; i < sizeof too_far / sizeof *too_far; i++)
+        CHECK(stretch(too_far[i], buf, 48) == DELUGASH_LARGE);
+    CHECK(delugash_stretch(stream_key, 15, stream_salt, 14, 0, 0, 0, buf, 48) == DELUGASH_SIZES);
+    CHECK(delugash_stretch(stream_key, 16, stream_salt, 13, 0, 0, 0, buf, 48) == DELUGASH_SIZES);
+    CHECK(delugash_stretch(published[0].bytes, 17, stream_salt, 14, 0, 0, UINT64_MAX, buf, 48) == DELUGASH_SIZES);
+    CHECK(delugash_stretch(stream_key, 16, stream_key, 15, 0, 0, UINT64_MAX, buf, 48) == DELUGASH_SIZES);
+    CHECK(memcmp(buf, before, sizeof buf) == 0);
+    /* the last bytes of the keystream, and no bytes behind them; the same once more gives them back */
+    CHECK(stretch(1048576 - 48, buf, 48) == DELUGASH_OK && memcmp(buf, before, sizeof buf) != 0);
+    CHECK(stretch(1048576 - 48, buf, 48) == DELUGASH_OK && memcmp(buf, before, sizeof buf) == 0);
+    CHECK(stretch(1048576, buf, 0) == DELUGASH_OK);
+    CHECK(stretch(1048577, buf, 0) == DELUGASH_LARGE);
+    CHECK(stretch(UINT64_MAX, buf, 0) == DELUGASH_LARGE);
 }
 
 static uint64_t state = 1;
@@ -299,6 +383,10 @@ int main(void)
     making();
     no_memory();
     finding();
+    neighbouring_stretches();
+    index_above_a_packets();
+    packet_in_two_stretches();
+    refused_stretches();
     any_memory();
     printf("C interface: %u facts hold, %u do not\n", passed, failed);
     return failed != 0;

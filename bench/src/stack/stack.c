@@ -57,6 +57,11 @@ static void find(void)
     at.number = delugash_find(at.buf, at.n, ID).number;
 }
 
+static void stretch(void)
+{
+    at.number = delugash_stretch(key, sizeof key, salt, sizeof salt, SSRC, 1, 5, at.buf, at.n);
+}
+
 static size_t deepest(void (*call)(void), unsigned char pattern)
 {
     memset(stack, pattern, sizeof stack);
@@ -110,12 +115,15 @@ static void craft(unsigned contributors, size_t words, size_t payload, unsigned 
     at.n = k + payload;
 }
 
-static size_t protects, unprotects, forged, repeated, finds;
+static size_t protects, unprotects, forged, repeated, finds, stretches;
 
-/* One packet: found in, protected, and then received with a wrong tag, as it is, and once more. */
+/* One packet: its bytes under a stretch of keystream; found in, protected, and then received with a wrong tag, as it is, and once more. */
 static void pass(void)
 {
     uint8_t sent[sizeof at.buf];
+    memcpy(sent, at.buf, sizeof sent);
+    measure(stretch, DELUGASH_OK, &stretches);
+    memcpy(at.buf, sent, sizeof sent);
     measure(find, at.buf[0] & 0x10 ? DELUGASH_OK : DELUGASH_ABSENT, &finds);
     measure(protect, DELUGASH_OK, &protects);
     at.n = at.length;
@@ -145,7 +153,7 @@ int main(void)
 {
     for (at.policy = 0; at.policy <= DELUGASH_MASK; at.policy++) {
         size_t makes = 0, adds = 0;
-        protects = unprotects = forged = repeated = finds = 0;
+        protects = unprotects = forged = repeated = finds = stretches = 0;
         measure(make, DELUGASH_OK, &makes);
         measure(add, DELUGASH_OK, &adds);
         memcpy(at.receiver, at.sender, sizeof at.receiver);
@@ -153,7 +161,7 @@ int main(void)
             || delugash_add(at.receiver, DELUGASH_WORDS, SSRC, DELUGASH_RECEIVING, 0) != DELUGASH_OK)
             return 1;
         packets();
-        printf("%u %zu %zu %zu %zu %zu %zu %zu\n", (unsigned)at.policy, protects, unprotects, forged, repeated, makes, adds, finds);
+        printf("%u %zu %zu %zu %zu %zu %zu %zu %zu\n", (unsigned)at.policy, protects, unprotects, forged, repeated, makes, adds, finds, stretches);
     }
     return 0;
 }

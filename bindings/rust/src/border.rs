@@ -33,4 +33,15 @@ extern "C" {
     pub fn delugash_protect(session: *mut u64, words: usize, buf: *mut u8, length: usize, n: usize) -> Answer;
     pub fn delugash_unprotect(session: *mut u64, words: usize, buf: *mut u8, length: usize, n: usize) -> Answer;
     pub fn delugash_find(packet: *const u8, length: usize, id: u32) -> Part;
+    pub fn delugash_stretch(
+        key: *const u8,
+        key_length: usize,
+        salt: *const u8,
+        salt_length: usize,
+        ssrc: u32,
+        index: u64,
+        start: u64,
+        buf: *mut u8,
+        length: usize,
+    ) -> u32;
 }

@@ -1,4 +1,4 @@
-//! The refusals of document 01, as an error.
+//! The refusals of document 01, to which document 02 adds conditions, as an error.
 
 use std::fmt;
 
@@ -18,7 +18,7 @@ pub enum Error {
     Profile,
     /// 6: an element of the header extension runs past its block.
     Element,
-    /// 7: the protected packet is over 2,048 bytes.
+    /// 7: the protected packet is over 2,048 bytes; of a stretch: start + length is over 2^20.
     Large,
     /// 8: the buffer has no room for the protected packet.
     Room,

@@ -138,3 +138,41 @@ pub fn find(packet: &[u8], id: u8) -> Result<&[u8], Error> {
     let end = part.begin.saturating_add(part.length);
     packet.get(part.begin..end).ok_or(Error::Absent)
 }
+
+/// The keystream alone, for who encrypts a packet's front and back in separate moments: XORs the AES-CM keystream of RFC 3711 (4.1.1) onto the buffer, from byte
+/// `start` of it on. The same call decrypts. Two stretches that meet give what the joined one gives, wherever the joined one is not refused.
+///
+/// Key and salt are those that RFC 3711 (4.3) derives for the session, never the master ones that [`Session::new`] takes: their keystream is the session keys. The index is
+/// the packet's, rollover counter * 65,536 + sequence number, below 2^48; a larger one gives another SSRC's keystream, so never pass one. `start` is 0 for the first byte that is
+/// encrypted: the payload's or, under Cryptex, the first contributor's.
+///
+/// [`Error::Large`] where start + length is over 2^20; the buffer is as it was then, in clear.
+///
+/// **Keystream that is used twice gives the audio away.** Whoever catches two buffers that were encrypted with the same bytes of keystream has the XOR of their plain bytes
+/// without any key. So under one key and salt, byte k of the keystream of one SSRC and index may never encrypt two different plain bytes: not in another stretch, not in a packet
+/// that [`Session::protect`] sends under the same keys, not after a restart, not in another box. And stretches of one packet must not overlap: a byte that gets its keystream
+/// twice is in clear again. Nothing here remembers what was used, and nothing is authenticated. Where [`Session::protect`] will do, use that.
+pub fn stretch(
+    key: &[u8; 16],
+    salt: &[u8; 14],
+    ssrc: u32,
+    index: u64,
+    start: u64,
+    buf: &mut [u8],
+) -> Result<(), Error> {
+    // SAFETY: each pointer comes with its length; the buffer is borrowed alone, so it overlaps neither key nor salt.
+    let number = unsafe {
+        border::delugash_stretch(
+            key.as_ptr(),
+            key.len(),
+            salt.as_ptr(),
+            salt.len(),
+            ssrc,
+            index,
+            start,
+            buf.as_mut_ptr(),
+            buf.len(),
+        )
+    };
+    Error::check(number)
+}

@@ -1,6 +1,6 @@
-//! Published packets both ways, each refusal that a safe call can meet, what a refusal leaves, and what is shown of a session.
+//! Published packets both ways, published keystream in stretches, each refusal that a safe call can meet, what a refusal leaves, and what is shown of a session.
 
-use delugash::{find, Error, Policy, Session, Way};
+use delugash::{find, stretch, Error, Policy, Session, Way};
 
 /// The master key and salt of RFC 3711's B.3, which RFC 9335's appendix takes.
 const KEY: [u8; 16] = *b"\xe1\xf9\x7a\x0d\x3e\x01\x8b\xe0\xd6\x4f\xa3\x2c\x06\xde\x41\x39";
@@ -143,6 +143,93 @@ fn elements_are_parts_of_the_packet() {
     assert_eq!(find(&packet, 2), Ok(&hex("0000c8")[..]));
     assert_eq!(find(&packet, 5), Err(Error::Absent));
     assert_eq!(find(&packet[..11], 1), Err(Error::Short));
+}
+
+/// RFC 3711, B.2: session key and salt, and of the keystream for SSRC 0 and index 0 the blocks 0 to 2 and 65279 to 65281.
+const STREAM_KEY: [u8; 16] = *b"\x2b\x7e\x15\x16\x28\xae\xd2\xa6\xab\xf7\x15\x88\x09\xcf\x4f\x3c";
+const STREAM_SALT: [u8; 14] = *b"\xf0\xf1\xf2\xf3\xf4\xf5\xf6\xf7\xf8\xf9\xfa\xfb\xfc\xfd";
+const STREAM: [(u64, &str); 2] = [
+    (
+        0,
+        "e03ead0935c95e80e166b16dd92b4eb4d23513162b02d0f72a43a2fe4a5f97ab41e95b3bb0a2e8dd477901e4fca894c0",
+    ),
+    (
+        65279 * 16,
+        "ec8cdf7398607cb0f2d21675ea9ea1e4362b7c3c6773516318a077d7fc5073ae6a2cc3787889374fbeb4c81b17ba6c44",
+    ),
+];
+
+#[test]
+fn neighbouring_stretches_join() {
+    for (start, published) in STREAM {
+        for cut in 0..=48 {
+            let mut buf = [0u8; 48];
+            let (front, back) = buf.split_at_mut(cut);
+            assert_eq!(
+                stretch(&STREAM_KEY, &STREAM_SALT, 0, 0, start + cut as u64, back),
+                Ok(())
+            );
+            assert_eq!(stretch(&STREAM_KEY, &STREAM_SALT, 0, 0, start, front), Ok(()));
+            assert_eq!(buf[..], hex(published), "cut at {cut}");
+        }
+    }
+}
+
+/// RFC 3711's equation has the upper bits of an index above 2^48 meet the SSRC's lower ones: where the two are equal, they cancel each other.
+#[test]
+fn any_index_has_a_stretch() {
+    for high in [1u64, 2, 0x1234, 0xffff] {
+        let mut buf = [0u8; 48];
+        assert_eq!(
+            stretch(
+                &STREAM_KEY,
+                &STREAM_SALT,
+                high as u32,
+                high << 48,
+                STREAM[1].0,
+                &mut buf
+            ),
+            Ok(())
+        );
+        assert_eq!(buf[..], hex(STREAM[1].1));
+    }
+}
+
+/// RFC 9335, A.1.3, under the session key and salt of RFC 3711's B.3: contributors, and then block and payload, the extension header left out.
+#[test]
+fn a_packet_in_two_stretches() {
+    let key = *b"\xc6\x1e\x7a\x93\x74\x4f\x39\xee\x10\x73\x4a\xfe\x3f\xf7\xa0\x87";
+    let salt = *b"\x30\xcb\xbc\x08\x86\x3d\x8c\x85\xd4\x9d\xb3\x4a\x9a\xe1";
+    let (plain, wire) = (hex(PUBLISHED[2].1), hex(PUBLISHED[2].2));
+    let mut packet = plain;
+    assert_eq!(stretch(&key, &salt, SSRC, 0x1238, 8, &mut packet[24..]), Ok(()));
+    assert_eq!(stretch(&key, &salt, SSRC, 0x1238, 0, &mut packet[12..20]), Ok(()));
+    assert_eq!(packet[12..20], wire[12..20]);
+    assert_eq!(packet[24..], wire[24..wire.len() - 10]);
+}
+
+#[test]
+fn refusals_of_stretches() {
+    const END: u64 = 1 << 20;
+    for start in [END - 47, END, END + 1, u64::MAX - 48, u64::MAX - 47, u64::MAX] {
+        let mut buf = [0xab; 48];
+        assert_eq!(
+            stretch(&STREAM_KEY, &STREAM_SALT, 0, 0, start, &mut buf),
+            Err(Error::Large),
+            "start {start}"
+        );
+        assert_eq!(buf, [0xab; 48]);
+    }
+    let mut last = [0xab; 48];
+    assert_eq!(stretch(&STREAM_KEY, &STREAM_SALT, 0, 0, END - 48, &mut last), Ok(()));
+    assert_ne!(last, [0xab; 48]);
+    assert_eq!(stretch(&STREAM_KEY, &STREAM_SALT, 0, 0, END - 48, &mut last), Ok(()));
+    assert_eq!(last, [0xab; 48]);
+    assert_eq!(stretch(&STREAM_KEY, &STREAM_SALT, 0, 0, END, &mut []), Ok(()));
+    assert_eq!(
+        stretch(&STREAM_KEY, &STREAM_SALT, 0, 0, END + 1, &mut []),
+        Err(Error::Large)
+    );
 }
 
 #[test]

@@ -8,7 +8,7 @@ use borrow.Author.Tests.{eq-eqb, ne-eqb, lt-ltb, le-ltb}
 use lib.Dec.{eqb}
 use lib.ListN.{length, set, replicate}
 use Rattle.bits.specs.Pick.{pick}
-use Rattle.bits.specs.Refusals.{numberOf}
+use Rattle.bits.specs.Refusals.{numberOf, wrongMemory, wrongWay}
 use Rattle.bits.specs.declared.refusal.Refusal.{Refusal}
 use Rattle.bits.specs.declared.refusal.Refusal.the-variants as refusal
 use Rattle.bits.proofs.Refusals.{above-zero}
@@ -20,7 +20,7 @@ use Rattle.session.specs.declared.place.Place.{Place}
 use Rattle.session.specs.declared.place.Place.the-variants.{At, Nowhere}
 use Rattle.session.specs.Session.{Made, Session}
 use Rattle.session.specs.Adding.{notAdded, addOf}
-use Rattle.session.specs.Calls.{wrongMemory, wrongWay, wayOf, Leaves, withRecordAt, placedAt, addedIn, addCall}
+use Rattle.session.specs.Calls.{wayOf, Leaves, withRecordAt, placedAt, addedIn, addCall}
 use Rattle.session.specs.Memory.{headWord, each, recordWords, isMark, size, setupAt, decode}
 use Rattle.session.specs.Places.{freeFrom}
 use Rattle.session.specs.Records.{kindOf, freshRecord, hasSsrc}

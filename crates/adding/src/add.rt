@@ -1,12 +1,12 @@
 // A stream added to the session in the memory that is lent.
+use bits::refusal::MEMORY;
 use bits::refusal::Refusal;
+use bits::refusal::WAY;
 use memory::copying::copy;
 use policies::policy::Way;
 use records::places::free_place;
 use records::places::has_ssrc;
 use records::places::head_word;
-use session::answer::MEMORY;
-use session::answer::WAY;
 use session::answer::code;
 use session::layout::EACH;
 use session::layout::FRONT;

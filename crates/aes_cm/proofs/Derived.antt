@@ -1,7 +1,8 @@
 -- Derived keys: the keystream onto zeros, over the length.
 use mathlib.Core.Path.{_≡_, refl, ap, ap₂, _∙_}
 use mathlib.Core.List.{List, _∷_}
-use Prim.Native.Nat.{ℕ, zero, suc}
+use Prim.Native.Nat.{ℕ, zero, suc, _+_, _≤_}
+use native.Mathlib.Omega.{arith}
 use lib.Bits.{xor-zero-l}
 use lib.ListN.{length, replicate}
 use Rattle.bits.specs.Lists.{tabulate}
@@ -10,20 +11,21 @@ use Rattle.bits.proofs.Lists.{length-tabulate}
 use Rattle.bits.proofs.Xor.{pad-ext}
 use Rattle.aes_cm.specs.declared.derivation.SessionKeys.{SessionKeys}
 use Rattle.aes_counter.specs.Keystream.{keystreamOf}
-use Rattle.aes_cm.specs.Portion.{portionPad}
+use Rattle.stretches.specs.Stretch.{keystreamEnd}
+use Rattle.stretches.proofs.Parts.{served-bytes}
+use Rattle.keystream.specs.Stretch.{stretchOf}
 use Rattle.aes_cm.specs.Derivation.{saltFor, derivedOf}
-use Rattle.aes_cm.proofs.Portions.{whole}
 
 onto-zeros : (n : ℕ) (pad : ℕ → ℕ) → xorPad pad (replicate n 0) ≡ tabulate n pad
 onto-zeros zero pad = refl
 onto-zeros (suc n) pad = ap₂ (λ (a : ℕ) (l : List ℕ). a ∷ l) (xor-zero-l (pad 0)) (onto-zeros n (λ i. pad (suc i)))
 
-pub derived-is : (key salt : List ℕ) (label : ℕ) (l m : List ℕ) → l ≡ replicate (length l) 0
-    → m ≡ xorPad (portionPad 0 0 0 (keystreamOf key (saltFor salt label) 0 0)) l → m ≡ derivedOf key salt label (length l)
+pub derived-is : (key salt : List ℕ) (label : ℕ) (l m : List ℕ) → l ≡ replicate (length l) 0 → length l ≤ keystreamEnd
+    → m ≡ stretchOf key (saltFor salt label) 0 0 0 l .bytes → m ≡ derivedOf key salt label (length l)
 unfolding derivedOf
-derived-is key salt label l m z e =
+derived-is key salt label l m z h e =
     let stream = keystreamOf key (saltFor salt label) 0 0 in
-    e ∙ pad-ext (portionPad 0 0 0 stream) stream l (λ i b. whole stream i) ∙ ap (xorPad stream) z ∙ onto-zeros (length l) stream
+    e ∙ served-bytes stream 0 l (omega arith) ∙ pad-ext (λ k. stream (0 + k)) stream l (λ i b. ap stream (omega arith)) ∙ ap (xorPad stream) z ∙ onto-zeros (length l) stream
 
 pub derived-length : (key salt : List ℕ) (label n : ℕ) → length (derivedOf key salt label n) ≡ n
 unfolding derivedOf

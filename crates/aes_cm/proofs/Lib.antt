@@ -1,3 +1,4 @@
 pub mod Portions
 pub mod Streams
+pub mod Pieces
 pub mod Derived

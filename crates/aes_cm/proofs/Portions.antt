@@ -21,8 +21,3 @@ module _ (first stop rest : ℕ) (stream : ℕ → ℕ) (i : ℕ) where
   pub past-gap : first ≤ i → stop ≤ i → rest ≤ i → portionPad first stop rest stream i ≡ stream (stop - first + (i - rest))
   unfolding portionPad
   past-gap g h l = simp (le-ltb i first g, le-ltb i stop h, le-ltb i rest l)
-
--- without a gap, from the first byte on
-pub whole : (stream : ℕ → ℕ) (i : ℕ) → portionPad 0 0 0 stream i ≡ stream i
-unfolding portionPad
-whole stream i = let e : 0 - 0 + (i - 0) ≡ i = omega arith in simp (le-ltb i 0 (omega arith), e)

@@ -1,17 +1,18 @@
 -- A portion as two stretches, under the keystream of a key, a salt, an SSRC and an index.
 use mathlib.Core.Path.{_≡_, sym, ap, ap₂, _∙_}
-use mathlib.Core.List.{List}
-use Prim.Native.Nat.{ℕ, _+_, _-_, _^_, _≤_, _<_}
+use mathlib.Core.List.{List, _++_}
+use Prim.Native.Nat.{ℕ, _+_, _-_, _≤_, _<_}
 use native.Mathlib.Decide.{decLt}
 use native.Mathlib.Omega.{arith}
 use mathlib.Core.Logic.{inl, inr}
-use lib.ListN.{length}
+use lib.ListN.{length, take, drop}
 use Rattle.bits.specs.Xor.{xorPad}
-use Rattle.bits.proofs.Xor.{pad-ext}
+use Rattle.bits.proofs.Xor.{pad-ext, length-pad}
 use Rattle.aes_cm.specs.Portion.{portionPad}
-use Rattle.stretches.specs.Stretch.{stretchPad}
+use Rattle.stretches.specs.Stretch.{keystreamEnd, stretchBy, stretchPad}
 use Rattle.aes_cm.proofs.Portions.{before-first, in-first, in-gap, past-gap}
-use Rattle.stretches.proofs.Stretches.{at-before, at-past, at-in, pad-join}
+use Rattle.stretches.proofs.Stretches.{at-before, at-past, at-in, pad-join, stretch-done}
+use Rattle.stretches.proofs.Parts.{part-length, stretch-back}
 
 -- a portion is two stretches
 module _ (first stop rest : ℕ) (ks : ℕ → ℕ) (up : first ≤ stop) (on : stop ≤ rest) where
@@ -55,19 +56,38 @@ portion-ext first stop rest m f g up on h i b =
       ]
     ]
 
--- the two stretches of the code are the portion
-pub stretches-are : (stream : ℕ → ℕ) (first stop rest o : ℕ) (l l₁ l₂ : List ℕ) → first ≤ stop → stop ≤ rest → o ≡ 0 + (stop - first)
-    → l₁ ≡ xorPad (stretchPad first stop 0 stream) l → l₂ ≡ xorPad (stretchPad rest (length l) o stream) l₁
-    → l₂ ≡ xorPad (portionPad first stop rest stream) l
-stretches-are stream first stop rest o l l₁ l₂ up on eo e₁ e₂ =
-    let z : o ≡ stop - first = omega arith in
-    e₂
-    ∙ ap₂ (λ (k : ℕ) (u : List ℕ). xorPad (stretchPad rest (length l) k stream) u) z e₁
-    ∙ two-stretches first stop rest stream up on l
+-- the two stretches of the code are the portion: each part lent, and back
+module _ (stream : ℕ → ℕ) (first stop rest : ℕ) (l : List ℕ) (up : first ≤ stop) (on : stop ≤ rest) (to : rest ≤ length l) (end : length l ≤ keystreamEnd) where
+  -- the first stretch may be empty
+  pub one-part : (ys : List ℕ) → first ≡ stop → ys ≡ stretchBy stream 0 (take (length l - rest) (drop rest l)) .bytes
+      → take rest l ++ (ys ++ drop (length l - rest) (drop rest l)) ≡ xorPad (portionPad first stop rest stream) l
+  one-part ys none ey =
+      let z : 0 ≡ stop - first = omega arith in
+      stretch-back stream rest (length l) 0 l ys to (omega arith) (omega arith) ey
+      ∙ ap₂ (λ (k : ℕ) (u : List ℕ). xorPad (stretchPad rest (length l) k stream) u) z (sym (stretch-done first stop 0 stream l (omega arith)))
+      ∙ two-stretches first stop rest stream up on l
+
+  module _ (ys : List ℕ) (ey : ys ≡ stretchBy stream 0 (take (stop - first) (drop first l)) .bytes) where
+    pub first-part : take first l ++ (ys ++ drop (stop - first) (drop first l)) ≡ xorPad (stretchPad first stop 0 stream) l
+    first-part = stretch-back stream first stop 0 l ys up (omega arith) (omega arith) ey
+
+    pub length-after : length (take first l ++ (ys ++ drop (stop - first) (drop first l))) ≡ length l
+    length-after = ap length first-part ∙ length-pad (stretchPad first stop 0 stream) l
+
+    pub two-parts : (o : ℕ) (m zs : List ℕ) → o ≡ 0 + length (take (stop - first) (drop first l)) → m ≡ take first l ++ (ys ++ drop (stop - first) (drop first l))
+        → zs ≡ stretchBy stream o (take (length m - rest) (drop rest m)) .bytes
+        → take rest m ++ (zs ++ drop (length m - rest) (drop rest m)) ≡ xorPad (portionPad first stop rest stream) l
+    two-parts o m zs eo em ez =
+        let n : length m ≡ length l = ap length em ∙ length-after in
+        let z : o ≡ stop - first = omega (arith, eo, part-length first stop l (omega arith)) in
+        stretch-back stream rest (length m) o m zs (omega arith) (omega arith) (omega arith) ez
+        ∙ ap (λ (e : ℕ). xorPad (stretchPad rest e o stream) m) n
+        ∙ ap₂ (λ (k : ℕ) (u : List ℕ). xorPad (stretchPad rest (length l) k stream) u) z (em ∙ first-part)
+        ∙ two-stretches first stop rest stream up on l
 
 -- and what its blocks are is the portion's keystream
-pub portion-is : (made stream : ℕ → ℕ) → ((k : ℕ) → k < 2 ^ 20 → made k ≡ stream k)
-    → (first stop rest : ℕ) (l m : List ℕ) → first ≤ stop → stop ≤ rest → length l ≤ 2 ^ 20
+pub portion-is : (made stream : ℕ → ℕ) → ((k : ℕ) → k < keystreamEnd → made k ≡ stream k)
+    → (first stop rest : ℕ) (l m : List ℕ) → first ≤ stop → stop ≤ rest → length l ≤ keystreamEnd
     → m ≡ xorPad (portionPad first stop rest made) l → m ≡ xorPad (portionPad first stop rest stream) l
 portion-is made stream same first stop rest l m up on hl e =
     e

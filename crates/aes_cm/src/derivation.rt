@@ -1,8 +1,9 @@
 // Session keys from the master key and salt (RFC 3711, 4.3).
-use crate::portion::xor_portion;
+use keystream::stretch::stretch;
 ghost use mathlib.Core.Path.{_≡_};
-ghost use Prim.Native.Nat.{_^_, _≤_};
+ghost use Prim.Native.Nat.{_≤_};
 ghost use lib.ListN.{length, replicate};
+ghost use Rattle.stretches.specs.Stretch.{keystreamEnd};
 ghost use Rattle.aes_cm.specs.Derivation.{derivedOf, sessionKeysOf};
 
 pub struct SessionKeys {
@@ -13,14 +14,14 @@ pub struct SessionKeys {
     pub header_salt: [u8; 14],
 }
 
-// What is derived for a label goes onto a buffer of zeros.
+// What is derived for a label goes onto a buffer of zeros, a stretch from the first byte on.
 fn derived(key: [u8; 16], salt: [u8; 14], label: u8, zeros: &mut [u8])
-    requires { ⌜ (now zeros ≡ replicate (length (now zeros)) 0) × (length (now zeros) ≤ 2 ^ 20) ⌝ }
+    requires { ⌜ (now zeros ≡ replicate (length (now zeros)) 0) × (length (now zeros) ≤ keystreamEnd) ⌝ }
     ensures { λ _. ⌜ now (zeros .exit) ≡ derivedOf key salt label (length (now (zeros .entry))) ⌝ }
 {
     let mut x = salt;
     x[7] = x[7] ^ label;
-    xor_portion(key, x, 0, 0, zeros, 0, 0, 0);
+    stretch(key, x, 0, 0, 0, zeros);
 }
 
 // The five session keys.

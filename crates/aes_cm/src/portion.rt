@@ -4,18 +4,18 @@ use aes::blocks::round_keys;
 use aes_counter::start::packet_start;
 use aes_keystream::keystream::Keystream;
 use aes_keystream::keystream::xor_stretch;
-use aes_tables::tables;
 ghost use mathlib.Core.Path.{_≡_};
-ghost use Prim.Native.Nat.{_^_, _≤_, _<_};
+ghost use Prim.Native.Nat.{_≤_};
 ghost use lib.ListN.{length};
 ghost use Rattle.bits.specs.Xor.{xorPad};
 ghost use Rattle.aes_tables.specs.Tables.{SboxTable, RoundTable};
 ghost use Rattle.aes.specs.Blocks.{byteFrom, Lent, Started};
 ghost use Rattle.aes_counter.specs.Keystream.{keystreamOf};
+ghost use Rattle.stretches.specs.Stretch.{keystreamEnd};
 ghost use Rattle.aes_cm.specs.Portion.{portionPad};
 
-// The bytes from `first` up to `stop` and from `rest` on continue one keystream. A block that both sides share is made once.
-// RFC 3711 allows 2^16 blocks of keystream for a packet, 2^20 bytes; a packet here has at most 2,048.
+// The bytes from `first` up to `stop` and from `rest` on are two neighbouring stretches. A block that both sides share is carried along, and so made once.
+// The buffer is no longer than a keystream, so neither is LARGE.
 fn portion_by(
     sbox: &[u8; 256],
     table: &[u8; 2048],
@@ -28,25 +28,24 @@ fn portion_by(
 )
     requires { ⌜ Lent (now sbox) (now table) (now keys) (start .key) ⌝ }
     requires { ⌜ Started start ⌝ }
-    requires { ⌜ (first ≤ stop) × ((stop ≤ rest) × ((rest ≤ length (now buf)) × (length (now buf) ≤ 2 ^ 20))) ⌝ }
+    requires { ⌜ (first ≤ stop) × ((stop ≤ rest) × ((rest ≤ length (now buf)) × (length (now buf) ≤ keystreamEnd))) ⌝ }
     ensures { λ _. ⌜ now (buf .exit) ≡ xorPad (portionPad first stop rest (byteFrom (start .key) (start .block))) (now (buf .entry)) ⌝ }
 {
-    let n = buf.len();
     let s = Keystream {
         block: [0u8; 16],
         at: 0,
     };
     if first == stop {
-        xor_stretch(sbox, table, keys, start, buf, rest, n, s);
+        xor_stretch(sbox, table, keys, start, &mut buf[rest..], s);
         return;
     }
-    let t = xor_stretch(sbox, table, keys, start, buf, first, stop, s);
-    xor_stretch(sbox, table, keys, start, buf, rest, n, t);
+    let t = xor_stretch(sbox, table, keys, start, &mut buf[first..stop], s);
+    xor_stretch(sbox, table, keys, start, &mut buf[rest..], t);
 }
 
 // The same by key, salt, SSRC and index. The tables are lent: they are written to the stack anew wherever they are made, and under the mask a packet has
 // two keystreams.
-pub fn xor_portion_with(
+pub fn xor_portion(
     sbox: &[u8; 256],
     table: &[u8; 2048],
     key: [u8; 16],
@@ -59,40 +58,10 @@ pub fn xor_portion_with(
     rest: usize,
 )
     requires { ⌜ SboxTable (now sbox) × RoundTable (now table) ⌝ }
-    requires { ⌜ (index < 2 ^ 48) × ((first ≤ stop) × ((stop ≤ rest) × ((rest ≤ length (now buf)) × (length (now buf) ≤ 2 ^ 20)))) ⌝ }
+    requires { ⌜ (first ≤ stop) × ((stop ≤ rest) × ((rest ≤ length (now buf)) × (length (now buf) ≤ keystreamEnd))) ⌝ }
     ensures { λ _. ⌜ now (buf .exit) ≡ xorPad (portionPad first stop rest (keystreamOf key salt ssrc index)) (now (buf .entry)) ⌝ }
 {
     let keys = round_keys(sbox, key);
     let start = packet_start(sbox, table, &keys, key, salt, ssrc, index);
     portion_by(sbox, table, &keys, start, buf, first, stop, rest);
-}
-
-// The same where this is the only keystream: the tables are made here.
-pub fn xor_portion(
-    key: [u8; 16],
-    salt: [u8; 14],
-    ssrc: u32,
-    index: u64,
-    buf: &mut [u8],
-    first: usize,
-    stop: usize,
-    rest: usize,
-)
-    requires { ⌜ (index < 2 ^ 48) × ((first ≤ stop) × ((stop ≤ rest) × ((rest ≤ length (now buf)) × (length (now buf) ≤ 2 ^ 20)))) ⌝ }
-    ensures { λ _. ⌜ now (buf .exit) ≡ xorPad (portionPad first stop rest (keystreamOf key salt ssrc index)) (now (buf .entry)) ⌝ }
-{
-    let sbox = tables::sbox();
-    let table = tables::round_table();
-    xor_portion_with(
-        &sbox,
-        &table,
-        key,
-        salt,
-        ssrc,
-        index,
-        buf,
-        first,
-        stop,
-        rest,
-    );
 }

@@ -3,7 +3,8 @@ use crate::counter::iv;
 use aes::blocks::Start;
 use aes::blocks::start_at;
 ghost use mathlib.Core.Path.{_≡_};
-ghost use Prim.Native.Nat.{ℕ, _^_, _≤_, _<_};
+ghost use Prim.Native.Nat.{ℕ, _<_};
+ghost use Rattle.stretches.specs.Stretch.{keystreamEnd};
 ghost use Rattle.aes.specs.Blocks.{byteFrom, Lent, Started};
 ghost use Rattle.aes_counter.specs.Keystream.{keystreamOf};
 
@@ -18,9 +19,8 @@ pub fn packet_start(
     index: u64,
 ) -> Start
     requires { ⌜ Lent (now sbox) (now table) (now keys) key ⌝ }
-    requires { ⌜ index < 2 ^ 48 ⌝ }
     ensures { λ r. ⌜ (r .key ≡ key) × Started r ⌝ }
-    ensures { λ r. ⌜ ((k : ℕ) → k < 2 ^ 20 → byteFrom (r .key) (r .block) k ≡ keystreamOf key salt ssrc index k) ⌝ }
+    ensures { λ r. ⌜ ((k : ℕ) → k < keystreamEnd → byteFrom (r .key) (r .block) k ≡ keystreamOf key salt ssrc index k) ⌝ }
 {
     start_at(sbox, table, keys, key, iv(salt, ssrc, index))
 }

@@ -12,9 +12,10 @@ use Rattle.bits.proofs.Xor.{length-pad, pad-ext}
 use Rattle.aes_keystream.specs.declared.keystream.Keystream.{Keystream}
 use Rattle.aes.specs.Blocks.{blockFrom, byteFrom}
 use Rattle.aes.proofs.Borders.{byte-of}
-use Rattle.stretches.specs.Stretch.{stretchPad}
+use Rattle.stretches.specs.Stretch.{keystreamEnd, stretchBy, stretchPad}
 use Rattle.aes_keystream.specs.Steps.{spanOf, Holds, Used}
-use Rattle.stretches.proofs.Stretches.{stretch-done, stretch-part, stretch-join}
+use Rattle.stretches.proofs.Stretches.{at-in, stretch-done, stretch-part, stretch-join}
+use Rattle.stretches.proofs.Parts.{served-bytes}
 
 -- the span: all that is left, or up to the block's end
 pub record Span (from left n : ℕ) : Type 0 where
@@ -46,23 +47,23 @@ module _ (key start : List ℕ) where
       record { block = λ u. let q : o / 16 ≡ (o + n) / 16 = omega arith in e ∙ ap (blockFrom key start) q }
 
   -- bytes of the block that is held
-  pub held : (a e : ℕ) (l : List ℕ) (s : Keystream) (n : ℕ) (ys : List ℕ) → a < e → e ≤ length l → (s .at % 16 ≡ 0 → ⊥) → Span (s .at % 16) (e - a) n
-      → ys ≡ xorPad (λ k. getD (s .block) (s .at % 16 + k) 0) (take (a + n - a) (drop a l)) → Holds key start s
+  pub held : (l : List ℕ) (s : Keystream) (n : ℕ) (ys : List ℕ) → (s .at % 16 ≡ 0 → ⊥) → Span (s .at % 16) (length l) n
+      → ys ≡ xorPad (λ k. getD (s .block) (s .at % 16 + k) 0) (take (n - 0) (drop 0 l)) → Holds key start s
       → Holds key start (record { block = s .block; at = s .at + n })
-      × (take a l ++ (ys ++ drop (a + n - a) (drop a l)) ≡ xorPad (stretchPad a (a + (s .at + n - s .at)) (s .at) (byteFrom key start)) l)
-  held a e l s n ys ha he u p ey h =
+      × (take 0 l ++ (ys ++ drop (n - 0) (drop 0 l)) ≡ xorPad (stretchPad 0 (s .at + n - s .at) (s .at) (byteFrom key start)) l)
+  held l s n ys u p ey h =
       let o = s .at in
       let stream = byteFrom key start in
       let f = p .fits in
       let g = p .within in
       let eb = h .block u in
-      let part = take (a + n - a) (drop a l) in
-      let lp : length part ≡ n = length-take-le (a + n - a) (drop a l) (simp length-drop (omega arith)) ∙ omega arith in
-      let z : a + n ≡ a + (o + n - o) = omega arith in (
+      let part = take (n - 0) (drop 0 l) in
+      let lp : length part ≡ n = length-take-le (n - 0) (drop 0 l) (omega arith) ∙ omega arith in
+      let z : n ≡ o + n - o = omega arith in (
         holds-next (s .block) o n eb f,
-        stretch-part a (a + n) o stream l ys (omega arith) (omega arith)
+        stretch-part 0 n o stream l ys (omega arith) (omega arith)
             (ey ∙ pad-ext (λ k. getD (s .block) (o % 16 + k) 0) (λ k. stream (o + k)) part (λ k b. in-block (s .block) o k eb (omega arith)))
-            ∙ ap (λ (m : ℕ). xorPad (stretchPad a m o stream) l) z,
+            ∙ ap (λ (m : ℕ). xorPad (stretchPad 0 m o stream) l) z,
       )
 
   -- what the loop keeps
@@ -112,21 +113,25 @@ followed key start e l₀ t₀ i₀ l t i n block ys he hi w eb s ey =
     (ey ∙ ap (λ (f : ℕ). xorPad (λ k. getD block (f + k) 0) (take (i + n - i) (drop i l))) (sym z))
 
 -- the whole of a stretch: the block that was held, and then the blocks that the loop made
-pub stretched : (key start : List ℕ) (a e : ℕ) (s t₀ t : Keystream) (l l₀ m : List ℕ) (i₀ i : ℕ) → a ≤ e → e ≤ i → Used a e s t₀ → i₀ ≡ a + (t₀ .at - s .at)
-    → l₀ ≡ xorPad (stretchPad a (a + (t₀ .at - s .at)) (s .at) (byteFrom key start)) l → Walk key start i₀ e l₀ t₀ m t i
-    → m ≡ xorPad (stretchPad a e (s .at) (byteFrom key start)) l
-stretched key start a e s t₀ t l l₀ m i₀ i h g u ei el w =
+pub stretched : (key start : List ℕ) (s t₀ t : Keystream) (l l₀ m : List ℕ) (i : ℕ) → length l ≤ i → s .at + length l ≤ keystreamEnd → Used (length l) s t₀
+    → l₀ ≡ xorPad (stretchPad 0 (t₀ .at - s .at) (s .at) (byteFrom key start)) l → Walk key start (t₀ .at - s .at) (length l) l₀ t₀ m t i
+    → m ≡ stretchBy (byteFrom key start) (s .at) l .bytes
+stretched key start s t₀ t l l₀ m i g h u el w =
     let stream = byteFrom key start in
+    let e = length l in
+    let i₀ = t₀ .at - s .at in
     let f = u .forward in
     let n = u .within in
     sym (stretch-done i e (t .at) stream m g) ∙ w .left
-    ∙ ap (xorPad (stretchPad i₀ e (t₀ .at) stream)) (el ∙ ap (λ (x : ℕ). xorPad (stretchPad a x (s .at) stream) l) (sym ei))
-    ∙ stretch-join a i₀ e (s .at) (t₀ .at) stream l (omega arith) (omega arith) (omega arith)
+    ∙ ap (xorPad (stretchPad i₀ e (t₀ .at) stream)) el
+    ∙ stretch-join 0 i₀ e (s .at) (t₀ .at) stream l (omega arith) (omega arith) (omega arith)
+    ∙ pad-ext (stretchPad 0 e (s .at) stream) (λ k. stream (s .at + k)) l (λ k b. at-in 0 e (s .at) stream k (s .at + k) (omega arith) b (omega arith))
+    ∙ sym (served-bytes stream (s .at) l h)
 
--- nothing is used of a keystream at the start of a block, nor where no places are left
-pub unused : (key start : List ℕ) (a o : ℕ) (l : List ℕ) → l ≡ xorPad (stretchPad a (a + (o - o)) o (byteFrom key start)) l
-unused key start a o l = sym (stretch-done a (a + (o - o)) o (byteFrom key start) l (omega arith))
+-- nothing is used of a keystream at the start of a block
+pub unused : (key start : List ℕ) (o : ℕ) (l : List ℕ) → l ≡ xorPad (stretchPad 0 (o - o) o (byteFrom key start)) l
+unused key start o l = sym (stretch-done 0 (o - o) o (byteFrom key start) l (omega arith))
 
--- before the first byte
-pub fresh : (key start : List ℕ) (block : List ℕ) → Holds key start (record { block = block; at = 0 })
-fresh key start block = record { block = λ u. absurd (u refl) }
+-- before the first byte of a block
+pub fresh : (key start block : List ℕ) (at : ℕ) → at % 16 ≡ 0 → Holds key start (record { block = block; at = at })
+fresh key start block at z = record { block = λ u. absurd (u z) }

@@ -15,8 +15,8 @@ spanOf from left = pick (ltb left (16 - from)) left (16 - from)
 pub record Holds (key start : List ℕ) (s : Keystream) : Type 0 where
   pub block : (s .at % 16 ≡ 0 → ⊥) → s .block ≡ blockFrom key start (s .at / 16)
 
--- the keystream r after the block that s held was used from place a on, but not past e: where places are left, a new block is next
-pub record Used (a e : ℕ) (s r : Keystream) : Type 0 where
+-- the keystream r after the block that s held went onto n places or the first of them: where places are left, a new block is next
+pub record Used (n : ℕ) (s r : Keystream) : Type 0 where
   pub forward : s .at ≤ r .at
-  pub within : r .at ≤ s .at + (e - a)
-  pub next : r .at < s .at + (e - a) → r .at % 16 ≡ 0
+  pub within : r .at ≤ s .at + n
+  pub next : r .at < s .at + n → r .at % 16 ≡ 0

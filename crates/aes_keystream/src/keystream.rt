@@ -1,15 +1,17 @@
-// XORing the keystream onto a buffer, a block at a time. A block that two stretches share is made once and held.
+// What every keystream goes through, that of packets and of the keystream part alike: a stretch of it onto a buffer, a block at a time. The block is held, and handed on
+// to the next stretch, so that a block which both share is made once.
 use aes::blocks::Start;
 use aes::blocks::block;
 use block_xor::part::xor_bytes;
 use block_xor::part::xor_part;
 ghost use mathlib.Core.Path.{_≡_};
 ghost use mathlib.Core.List.{List};
-ghost use Prim.Native.Nat.{ℕ, _+_, _-_, _^_, _≤_, _<_};
+ghost use mathlib.Core.Bool.{false};
+ghost use Prim.Native.Nat.{ℕ, _+_, _-_, _<_};
 ghost use lib.ListN.{length};
 ghost use Rattle.bits.specs.Xor.{xorPad};
 ghost use Rattle.aes.specs.Blocks.{byteFrom, Lent, Started};
-ghost use Rattle.stretches.specs.Stretch.{stretchPad};
+ghost use Rattle.stretches.specs.Stretch.{isLarge, stretchBy, stretchPad};
 ghost use Rattle.aes_keystream.specs.Steps.{spanOf, Holds, Used};
 
 // The next byte of the keystream is number `at`; `block` is the block it stands in, unless that is still to be made.
@@ -29,75 +31,46 @@ pub fn span(from: usize, left: usize) -> usize
     16 - from
 }
 
-// The keystream from byte `at` on.
-pub fn seek(
-    sbox: &[u8; 256],
-    table: &[u8; 2048],
-    keys: &[[[u8; 4]; 4]; 11],
-    start: Start,
-    at: usize,
-) -> Keystream
-    requires { ⌜ Lent (now sbox) (now table) (now keys) (start .key) ⌝ }
-    requires { ⌜ Started start ⌝ }
-    ensures { λ r. ⌜ (r .at ≡ at) × Holds (start .key) (start .block) r ⌝ }
-{
-    if at % 16 == 0 {
-        return Keystream {
-            block: [0u8; 16],
-            at: at,
-        };
-    }
-    let block = block(sbox, table, keys, start, at / 16);
-    Keystream {
-        block: block,
-        at: at,
-    }
-}
-
-// What is left of the block that is held goes onto the bytes from a on, but not past e.
-pub fn xor_held(buf: &mut [u8], a: usize, e: usize, s: Keystream) -> Keystream
-    requires { ⌜ (a ≤ e) × ((e ≤ length (now buf)) × (s .at + (e - a) < 2 ^ 32)) ⌝ }
-    ensures { λ r. ⌜ Used a e s r ⌝ }
-    ensures { λ r. ⌜ ((key start : List ℕ) → Holds key start s → (Holds key start r) × (now (buf .exit) ≡ xorPad (stretchPad a (a + (r .at - s .at)) (s .at) (byteFrom key start)) (now (buf .entry)))) ⌝ }
+// What is left of the block that is held goes onto the first bytes of the buffer.
+pub fn xor_held(buf: &mut [u8], s: Keystream) -> Keystream
+    requires { ⌜ isLarge (s .at) (length (now buf)) ≡ false ⌝ }
+    ensures { λ r. ⌜ Used (length (now (buf .entry))) s r ⌝ }
+    ensures { λ r. ⌜ ((key start : List ℕ) → Holds key start s → (Holds key start r) × (now (buf .exit) ≡ xorPad (stretchPad 0 (r .at - s .at) (s .at) (byteFrom key start)) (now (buf .entry)))) ⌝ }
 {
     let at = s.at;
     let from = at % 16;
     if from == 0 {
         return s;
     }
-    if a == e {
-        return s;
-    }
-    let n = span(from, e - a);
-    let end = a + n;
+    let n = span(from, buf.len());
     let block = s.block;
-    xor_bytes(&mut buf[a..end], block, from);
+    xor_bytes(&mut buf[0..n], block, from);
     Keystream {
         block: block,
         at: at + n,
     }
 }
 
-// The keystream onto the bytes from a up to e, from where it stands: first the block that is held, then one block after the other.
+// The keystream onto the whole buffer, from where it stands: first the block that is held, then one block after the other. Who calls it shows that the stretch is
+// not LARGE; the keystream part tests it before.
 pub fn xor_stretch(
     sbox: &[u8; 256],
     table: &[u8; 2048],
     keys: &[[[u8; 4]; 4]; 11],
     start: Start,
     buf: &mut [u8],
-    a: usize,
-    e: usize,
     s: Keystream,
 ) -> Keystream
     requires { ⌜ Lent (now sbox) (now table) (now keys) (start .key) ⌝ }
     requires { ⌜ Started start ⌝ }
-    requires { ⌜ (a ≤ e) × ((e ≤ length (now buf)) × (s .at + (e - a) < 2 ^ 32)) ⌝ }
+    requires { ⌜ isLarge (s .at) (length (now buf)) ≡ false ⌝ }
     requires { ⌜ Holds (start .key) (start .block) s ⌝ }
-    ensures { λ r. ⌜ (r .at ≡ s .at + (e - a)) × Holds (start .key) (start .block) r ⌝ }
-    ensures { λ _. ⌜ now (buf .exit) ≡ xorPad (stretchPad a e (s .at) (byteFrom (start .key) (start .block))) (now (buf .entry)) ⌝ }
+    ensures { λ r. ⌜ (r .at ≡ s .at + length (now (buf .entry))) × Holds (start .key) (start .block) r ⌝ }
+    ensures { λ _. ⌜ now (buf .exit) ≡ stretchBy (byteFrom (start .key) (start .block)) (s .at) (now (buf .entry)) .bytes ⌝ }
 {
-    let mut t = xor_held(buf, a, e, s);
-    let mut i = a + (t.at - s.at);
+    let e = buf.len();
+    let mut t = xor_held(buf, s);
+    let mut i = t.at - s.at;
     while i < e {
         let at = t.at;
         let block = block(sbox, table, keys, start, at / 16);

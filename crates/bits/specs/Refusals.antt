@@ -1,4 +1,4 @@
--- Document 01, "Numbers given back": the refusals, and their numbers.
+-- The refusals and their numbers: document 01, "Numbers given back", to which document 02 adds conditions, and the border's own.
 use mathlib.Core.Path.{_≡_}
 use mathlib.Core.List.{List, [], _∷_, map}
 use Prim.Native.Nat.{ℕ, _-_}
@@ -14,6 +14,7 @@ numberOf Version = 3
 numberOf Header = 4
 numberOf Profile = 5
 numberOf Element = 6
+-- one number for two conditions: of a packet (`policies/Judging.sizeFits`), and of a stretch of keystream (`stretches/Stretch.isLarge`)
 numberOf Large = 7
 numberOf Room = 8
 numberOf Stream = 9
@@ -38,3 +39,18 @@ refusals =
 pub record Numbered : Type 0 where
   pub numbers : map numberOf refusals ≡ 1 ∷ 2 ∷ 3 ∷ 4 ∷ 5 ∷ 6 ∷ 7 ∷ 8 ∷ 9 ∷ 10 ∷ 11 ∷ 12 ∷ 13 ∷ 14 ∷ 15 ∷ 16 ∷ 17 ∷ 18 ∷ 19 ∷ []
   pub rows : (r : Refusal) → getD refusals (numberOf r - 1) Length ≡ r
+
+-- ---- the border's own, which no paper has: what a caller can pass and the papers' types cannot hold
+
+-- session memory of another size
+abbrev pub wrongMemory : ℕ
+wrongMemory = 100
+
+-- a way that is neither 0, sending, nor 1, receiving
+abbrev pub wrongWay : ℕ
+wrongWay = 101
+
+-- where a session key and salt are lent to the keystream (document 02, CR 6, which has LARGE alone): a key that is not 16 bytes, or a salt that is not 14. KEYS is
+-- about the master key and salt that a session is made from
+abbrev pub wrongSizes : ℕ
+wrongSizes = 102

@@ -1,4 +1,4 @@
-// The refusals of document 01 ("Numbers given back"): a name for each number.
+// The refusals of document 01 ("Numbers given back"), a name for each number, and those of the border.
 ghost use mathlib.Core.Path.{_≡_};
 ghost use Rattle.bits.specs.Refusals.{numberOf, Numbered};
 
@@ -23,6 +23,15 @@ pub enum Refusal {
     Full,
     Absent,
 }
+
+// The border's own: session memory of another size.
+pub const MEMORY: u32 = 100;
+
+// A way that is neither 0, sending, nor 1, receiving.
+pub const WAY: u32 = 101;
+
+// A key that is not 16 bytes, or a salt that is not 14, lent to the keystream.
+pub const SIZES: u32 = 102;
 
 // The number that a call gives back for a refusal.
 pub fn number(refusal: Refusal) -> u8

@@ -5,6 +5,7 @@ use element_lines::find::find_element;
 use index_lines::guess::guess_index;
 use mask_lines::mask::mask_block;
 use memory::copying::clear;
+use stretch_lines::stretch::stretch_data;
 use text::words::count;
 use text::words::first_among;
 use text::words::well_spaced;
@@ -26,6 +27,7 @@ fn other(call: usize, line: &[u8], out: &mut [u8]) -> usize {
         6 => find_element(line, out),
         7 => guess_index(line, out),
         8 => mask_block(line, out),
+        9 => stretch_data(line, out),
         _ => 0,
     }
 }
@@ -36,7 +38,7 @@ fn command(desk: &mut [u64], line: &[u8], out: &mut [u8]) -> usize {
     }
     let call = first_among(
         line,
-        b"make add protect unprotect state case find guess mask",
+        b"make add protect unprotect state case find guess mask stretch",
     );
     if call < 5 {
         return on_session(desk, call, line, out);

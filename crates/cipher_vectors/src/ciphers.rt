@@ -1,12 +1,8 @@
 // AES on one block, and in counter mode.
-use aes::blocks;
-use aes::blocks::round_keys;
-use aes::blocks::start_at;
 use aes::blocks::state;
 use aes::cipher::aes128;
 use aes_cm::derivation::derive;
-use aes_counter::counter::iv;
-use aes_tables::tables;
+use keystream::call::stretch_call;
 use lines::arrays::array14;
 use lines::arrays::array16;
 use lines::hex::put;
@@ -20,14 +16,22 @@ pub fn block(key: &[u8], block: &[u8]) {
     put_line(&b[3]);
 }
 
-// Block j of the keystream of SSRC 0 and index 0.
-pub fn keystream(key: &[u8], salt: &[u8], j: usize) {
-    let sbox = tables::sbox();
-    let table = tables::round_table();
-    let k = array16(key);
-    let keys = round_keys(&sbox, k);
-    let start = start_at(&sbox, &table, &keys, k, iv(array14(salt), 0, 0));
-    put_line(&blocks::block(&sbox, &table, &keys, start, j));
+// Block j of the keystream of SSRC 0 and index 0, as a stretch.
+pub fn keystream(key: &[u8], salt: &[u8], j: u64) {
+    let mut block = [0u8; 16];
+    stretch_call(key, salt, 0, 0, j % 65536 * 16, &mut block);
+    put_line(&block);
+}
+
+// The three blocks from block j on, as two neighbouring stretches that meet inside a block.
+pub fn neighbours(key: &[u8], salt: &[u8], j: u64) {
+    let start = j % 65536 * 16;
+    let mut front = [0u8; 21];
+    let mut back = [0u8; 27];
+    stretch_call(key, salt, 0, 0, start, &mut front);
+    stretch_call(key, salt, 0, 0, start + 21, &mut back);
+    put(&front);
+    put_line(&back);
 }
 
 // What is derived for a label from a master key and salt.

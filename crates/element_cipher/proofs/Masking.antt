@@ -3,7 +3,7 @@ use mathlib.Core.Path.{_≡_, refl, sym, ap, ap₂, _∙_, fun-ext}
 use mathlib.Core.Bool.{Bool, true, false, not, true≢false}
 use mathlib.Core.Logic.{⊎-elim}
 use mathlib.Core.List.{List, [], _∷_, _++_, append-assoc}
-use Prim.Native.Nat.{ℕ, _+_, _-_, _^_, _≤_, _<_}
+use Prim.Native.Nat.{ℕ, _+_, _-_, _≤_, _<_}
 use native.Mathlib.Omega.{arith}
 use denote.Enum.Declared.{tagOf}
 use lib.Dec.{eqb}
@@ -13,7 +13,7 @@ use types.Run.{OneOf}
 use Rattle.bits.specs.Pick.{pick}
 use Rattle.bits.specs.Xor.{xorPad}
 use Rattle.bits.proofs.Xor.{length-pad, pad-ext, pad-none}
-use Rattle.stretches.specs.Stretch.{stretchPad}
+use Rattle.stretches.specs.Stretch.{keystreamEnd, stretchPad}
 use Rattle.stretches.proofs.Stretches.{stretch-part}
 use Rattle.rtp_elements.specs.declared.element.Element.{Element}
 use Rattle.rtp_elements.specs.declared.element.Found.{Found}
@@ -127,7 +127,7 @@ stretched-element pad block a n block′ h d =
     ∙ ap (λ (r : List ℕ). (take a block ++ done) ++ r) (drop-drop (a + n - a) a block ∙ ap (λ (j : ℕ). drop (a + j) block) e)
 
 -- a block is masked alike by two keystreams that agree on its bytes
-pub masked-is-stream : (listed : ℕ → Bool) (tag : ℕ) (made stream : ℕ → ℕ) → ((k : ℕ) → k < 2 ^ 20 → made k ≡ stream k) → (block block′ : List ℕ) → length block ≤ 2 ^ 20
+pub masked-is-stream : (listed : ℕ → Bool) (tag : ℕ) (made stream : ℕ → ℕ) → ((k : ℕ) → k < keystreamEnd → made k ≡ stream k) → (block block′ : List ℕ) → length block ≤ keystreamEnd
     → block′ ≡ maskedOf listed tag made block → block′ ≡ maskedOf listed tag stream block
 masked-is-stream listed tag made stream same block block′ hl e =
     let mask = maskOf listed tag block in

@@ -2,4 +2,3 @@
 // Follows RFC 6904, section 3, whose definitions are in rtp_elements.
 pub mod elements;
 pub mod listed;
-mod skip;

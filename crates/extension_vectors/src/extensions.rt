@@ -1,8 +1,8 @@
 // A header extension: under the mask for the ids 1, 3 and 4, and its elements.
 use aes_cm::derivation::derive;
-use aes_cm::portion::xor_portion;
 use aes_tables::tables;
 use element_cipher::elements::crypt_elements;
+use keystream::stretch::stretch;
 use libc::STDOUT_FILENO;
 use lines::arrays::array14;
 use lines::arrays::array16;
@@ -20,16 +20,7 @@ fn header_pad(key: &[u8], salt: &[u8]) -> [u8; 24]
     let header_cipher = k.header_cipher;
     let header_salt = k.header_salt;
     let mut pad = [0u8; 24];
-    xor_portion(
-        header_cipher,
-        header_salt,
-        0xcafebabe,
-        0x1234,
-        &mut pad,
-        0,
-        0,
-        0,
-    );
+    stretch(header_cipher, header_salt, 0xcafebabe, 0x1234, 0, &mut pad);
     pad
 }
 

@@ -5,6 +5,7 @@ use Prim.Native.Nat.{ℕ, _+_, _^_, _≤_, _<_}
 use lib.Dec.{eqb, ltb}
 use lib.ListN.{length, take}
 use Rattle.bits.specs.Pick.{pick}
+use Rattle.bits.specs.Refusals.{wrongMemory}
 use Rattle.bits.specs.declared.refusal.Refusal.{Refusal}
 use Rattle.bits.specs.declared.refusal.Refusal.the-variants as refusal
 use Rattle.memory.specs.Words.{word}
@@ -18,7 +19,6 @@ use Rattle.policies.specs.declared.policy.Way.{Way}
 use Rattle.policies.specs.Judging.{addedOf, judgedOf}
 use Rattle.session.specs.declared.place.Place.{Place}
 use Rattle.session.specs.declared.place.Place.the-variants.{At, Nowhere}
-use Rattle.session.specs.Calls.{wrongMemory}
 use Rattle.session.specs.Memory.{size, policyAt, decode}
 use Rattle.session.specs.Packets.{tagLength}
 use Rattle.session.specs.Places.{placeFrom}

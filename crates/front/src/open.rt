@@ -1,6 +1,7 @@
 // What every packet call asks before it uses a key, with the way as an argument.
 use crate::fields::sequence_number;
 use crate::fields::ssrc;
+use bits::refusal::MEMORY;
 use bits::refusal::Refusal;
 use policies::judge::added;
 use policies::judge::judge;
@@ -12,7 +13,6 @@ use rtp_header::header::Header;
 use rtp_header::header::Layout;
 use rtp_header::header::header_number;
 use session::answer::Answer;
-use session::answer::MEMORY;
 use session::layout::SIZE;
 use session::load::load_policy;
 use session::place::Place;

@@ -8,13 +8,13 @@ use borrow.Author.Tests.{eq-eqb, ne-eqb, eqb-true, ltb-false}
 use lib.Dec.{eqb, ltb}
 use lib.ListN.{length, replicate}
 use Rattle.bits.specs.Pick.{pick}
-use Rattle.bits.specs.Refusals.{numberOf}
+use Rattle.bits.specs.Refusals.{numberOf, wrongMemory}
 use Rattle.bits.specs.declared.refusal.Refusal.the-variants as refusal
 use Rattle.memory.specs.Parts.{withPart}
 use Rattle.packet_cipher.specs.declared.keys.Keys.{Keys}
 use Rattle.session.specs.Session.{Setup}
 use Rattle.session.specs.Making.{keysOf, idsOf, setupOf, unmade, sessionOf, notMade, makeOf}
-use Rattle.session.specs.Calls.{wrongMemory, Leaves, makeCall}
+use Rattle.session.specs.Calls.{Leaves, makeCall}
 use Rattle.session.specs.Memory.{size, encode, decode}
 use Rattle.session.proofs.RoundTrip.{encode-unmade, sessions-last}
 use Rattle.setup_words.specs.Steps.{setupWith, Stored}

@@ -1,5 +1,4 @@
 // A session made in lent memory.
 // Follows document 01, "Numbers given back", 15 and 16.
-mod arrays;
 pub mod ids;
 pub mod make;

@@ -1,11 +1,11 @@
 // A session made in the memory that is lent.
-use crate::arrays::array14;
-use crate::arrays::array16;
 use crate::ids::flags;
+use bits::arrays::array14;
+use bits::arrays::array16;
+use bits::refusal::MEMORY;
 use bits::refusal::Refusal;
 use memory::copying::clear;
 use memory::copying::copy;
-use session::answer::MEMORY;
 use session::answer::code;
 use session::layout::FRONT;
 use session::layout::SIZE;

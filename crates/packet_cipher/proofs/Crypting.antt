@@ -134,6 +134,27 @@ module _ (listed : ℕ → Bool) (stream header-stream : ℕ → ℕ) (p : List 
       ∙ pad-ext (λ i. padOf Mask listed stream header-stream p (layoutOf p .block + i)) (maskedPad mask header-stream) (blockOf (layoutOf p) p) inside
       ∙ sym (masked-is listed (layoutOf p .tag) header-stream (blockOf (layoutOf p) p))
 
+  -- what stands before the block stays
+  pub head-stays : (i : ℕ) → i < layoutOf p .block → getD (cryptedOf Mask listed stream header-stream p) i 0 ≡ getD p i 0
+  unfolding cryptedOf padOf
+  head-stays i b =
+      let s = sound p in
+      pad-stays (padOf Mask listed stream header-stream p) p i (simp (lt-ltb i (layoutOf p .payload) (omega (arith, s .payload)), lt-ltb i (layoutOf p .block) b))
+
+  -- the payload has the packet's own keystream from its first byte on
+  outside : (i : ℕ) → padOf Mask listed stream header-stream p (layoutOf p .payload + i) ≡ stream i
+  unfolding padOf
+  outside i =
+      let n = layoutOf p .payload in
+      let k : n - n + (n + i - n) ≡ i = omega arith in
+      simp (le-ltb (n + i) n (omega arith)) (past-gap n n n stream (n + i) (omega arith) (omega arith) (omega arith) ∙ ap stream k)
+
+  pub payload-crypted : drop (layoutOf p .payload) (cryptedOf Mask listed stream header-stream p) ≡ xorPad stream (drop (layoutOf p .payload) p)
+  unfolding cryptedOf
+  payload-crypted =
+      drop-pad (layoutOf p .payload) (padOf Mask listed stream header-stream p) p
+      ∙ pad-ext (λ i. padOf Mask listed stream header-stream p (layoutOf p .payload + i)) stream (drop (layoutOf p .payload) p) (λ i b. outside i)
+
   crypted-mask : maskOf listed (layoutOf p .tag) (blockOf (layoutOf p) (cryptedOf Mask listed stream header-stream p)) ≡ maskOf listed (layoutOf p .tag) (blockOf (layoutOf p) p)
   crypted-mask = ap (maskOf listed (layoutOf p .tag)) crypted-block ∙ masked-reads-alike .mask listed listed (layoutOf p .tag) header-stream (blockOf (layoutOf p) p)
 

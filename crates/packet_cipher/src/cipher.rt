@@ -1,6 +1,6 @@
 // Encrypting and decrypting a packet in place.
 use crate::keys::Keys;
-use aes_cm::portion::xor_portion_with;
+use aes_cm::portion::xor_portion;
 use aes_tables::tables;
 use element_cipher::elements::crypt_elements;
 use policies::policy::Policy;
@@ -9,7 +9,7 @@ use policies::uses::uses_mask;
 use rtp_header::header::Layout;
 ghost use mathlib.Core.Path.{_≡_};
 ghost use mathlib.Core.Bool.{true};
-ghost use Prim.Native.Nat.{_^_, _≤_, _<_};
+ghost use Prim.Native.Nat.{_≤_};
 ghost use lib.ListN.{length};
 ghost use Rattle.rtp_header.specs.Header.{layoutOf};
 ghost use Rattle.rtp_elements.specs.Mask.{listedIn};
@@ -53,7 +53,7 @@ pub fn crypt(
     h: Layout,
 )
     requires { ⌜ (h ≡ layoutOf (now packet)) × ((h .payload ≤ length (now packet)) × (length (now packet) ≤ 2048)) ⌝ }
-    requires { ⌜ (index < 2 ^ 48) × (elementsFit policy h (now packet) ≡ true) ⌝ }
+    requires { ⌜ elementsFit policy h (now packet) ≡ true ⌝ }
     ensures { λ _. ⌜ now (packet .exit) ≡ cipherOf keys policy (listedIn (now (ids .entry))) ssrc index (now (packet .entry)) ⌝ }
 {
     let sbox = tables::sbox();
@@ -61,7 +61,7 @@ pub fn crypt(
     let key = keys.cipher;
     let salt = keys.salt;
     let r = encrypted_portion(is_cryptex(policy, h), h);
-    xor_portion_with(
+    xor_portion(
         &sbox,
         &table,
         key,

@@ -15,7 +15,7 @@ use rtp_header::header::Layout;
 ghost use mathlib.Core.Path.{_≡_};
 ghost use mathlib.Core.Bool.{true, _&&_};
 ghost use mathlib.Core.List.{_++_};
-ghost use Prim.Native.Nat.{_+_, _^_, _≤_, _<_};
+ghost use Prim.Native.Nat.{_+_, _≤_};
 ghost use lib.ListN.{length, take, drop};
 ghost use Rattle.bits.specs.Pick.{pick};
 ghost use Rattle.rtp_header.specs.Header.{layoutOf};
@@ -107,7 +107,7 @@ fn encrypt(
     packet: &mut [u8],
     h: Layout,
 )
-    requires { ⌜ (index < 2 ^ 48) × Shaped policy (now packet) (length (now packet)) h ⌝ }
+    requires { ⌜ Shaped policy (now packet) (length (now packet)) h ⌝ }
     ensures { λ _. ⌜ now (packet .exit) ≡ cipherOf keys policy (listedIn (now (ids .entry))) ssrc index (taggedOf policy (now (packet .entry))) ⌝ }
 {
     let g = say_cryptex(policy, packet, h);
@@ -125,7 +125,7 @@ pub fn decrypt(
     h: Layout,
 )
     requires { ⌜ (h ≡ layoutOf (now packet)) × ((h .payload ≤ length (now packet)) × (length (now packet) ≤ 2048)) ⌝ }
-    requires { ⌜ (index < 2 ^ 48) × (elementsFit policy h (now packet) ≡ true) ⌝ }
+    requires { ⌜ elementsFit policy h (now packet) ≡ true ⌝ }
     ensures { λ _. ⌜ now (packet .exit) ≡ untaggedOf policy (cipherOf keys policy (listedIn (now (ids .entry))) ssrc index (now (packet .entry))) ⌝ }
 {
     crypt(keys, policy, ids, ssrc, index, packet, h);
@@ -147,7 +147,7 @@ pub fn encrypt_packet(
     n: usize,
     h: Layout,
 ) -> usize
-    requires { ⌜ (index < 2 ^ 48) × ((n ≤ length (now buf)) × (judgedOf Way.Sending policy 10 (take n (now buf)) ≡ Read h)) ⌝ }
+    requires { ⌜ (n ≤ length (now buf)) × (judgedOf Way.Sending policy 10 (take n (now buf)) ≡ Read h) ⌝ }
     requires { ⌜ n + pick (addsBlock policy h) 4 0 ≤ length (now buf) ⌝ }
     ensures { λ r. ⌜ r ≡ n + pick (addsBlock policy h) 4 0 ⌝ }
     ensures { λ r. ⌜ now (buf .exit) ≡ bodyBy policy (cipherOf keys policy (listedIn (now (ids .entry))) ssrc index) (take n (now (buf .entry))) ++ drop r (now (buf .entry)) ⌝ }

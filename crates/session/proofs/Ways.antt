@@ -6,6 +6,7 @@ use Prim.Native.Nat.{ℕ}
 use lib.Dec.{eqb, ltb}
 use lib.ListN.{length, take}
 use Rattle.bits.specs.Pick.{pick}
+use Rattle.bits.specs.Refusals.{wrongMemory}
 use Rattle.bits.specs.declared.refusal.Refusal.{Refusal}
 use Rattle.bits.specs.declared.refusal.Refusal.the-variants as refusal
 use Rattle.rtp_header.specs.declared.header.Header.{Header}
@@ -24,7 +25,7 @@ use Rattle.wire.specs.Wire.{tagFits}
 use Rattle.session.specs.Session.{Record, Setup, Session}
 use Rattle.session.specs.Records.{Found, none, some, recordFor}
 use Rattle.session.specs.Packets.{tagLength, listedBy, Effect, refuse, give, wireLength, protectAt, protectIn, protectRead, protectEffect, unprotectAt, unprotectIn, unprotectRead, unprotectEffect, Outcome, settled, protectOf, unprotectOf}
-use Rattle.session.specs.Calls.{Left, wrongMemory, refusedWith, settledIn, protectCall, unprotectCall}
+use Rattle.session.specs.Calls.{Left, refusedWith, settledIn, protectCall, unprotectCall}
 use Rattle.session.specs.Memory.{size, decode}
 
 -- the replay state of a record once its packet, with this sequence number, is taken

@@ -5,6 +5,7 @@ use Prim.Native.Nat.{ℕ, _+_}
 use lib.Dec.{eqb, ltb}
 use lib.ListN.{length, getD, take}
 use Rattle.bits.specs.Pick.{pick}
+use Rattle.bits.specs.Refusals.{wrongMemory, wrongWay}
 use Rattle.memory.specs.Parts.{withPart, placeIn}
 use Rattle.rtp_header.specs.Header.{ssrcOf}
 use Rattle.policies.specs.declared.policy.Way.{Way}
@@ -21,16 +22,6 @@ use Rattle.session.specs.Records.{freshRecord}
 use Rattle.session.specs.Places.{noRecord, placeFrom, freeFrom}
 use Rattle.session.specs.declared.answer.Answer.{Answer as Given}
 use Rattle.session.specs.Memory.{recordLayout, theReplay, size, recordPlace, recordWords, encode, decode}
-
--- ---- two refusals of the border, beside document 01's 1 to 19
-
--- session memory of another size
-abbrev pub wrongMemory : ℕ
-wrongMemory = 100
-
--- a way that is neither 0, sending, nor 1, receiving
-abbrev pub wrongWay : ℕ
-wrongWay = 101
 
 abbrev pub wayOf : ℕ → Way
 wayOf n = pick (eqb n 0) Sending Receiving

@@ -1,14 +1,8 @@
-// What the calls give back, and the border's own refusals.
+// What the calls give back.
 use bits::refusal::Refusal;
 use bits::refusal::number;
 ghost use mathlib.Core.Path.{_≡_};
 ghost use Rattle.bits.specs.Refusals.{numberOf};
-
-// Session memory of another size.
-pub const MEMORY: u32 = 100;
-
-// A way that is neither 0, sending, nor 1, receiving.
-pub const WAY: u32 = 101;
 
 // 0 or the number of a refusal, and the packet's new length: 0 with a refusal.
 #[repr(C)]

@@ -8,7 +8,7 @@ use borrow.Author.Tests.{ne-eqb, le-ltb, ltb-false}
 use lib.Dec.{eqb, ltb}
 use lib.ListN.{length, getD, take}
 use Rattle.bits.specs.Pick.{pick}
-use Rattle.bits.specs.Refusals.{numberOf}
+use Rattle.bits.specs.Refusals.{numberOf, wrongMemory}
 use Rattle.bits.specs.declared.refusal.Refusal.{Refusal}
 use Rattle.bits.specs.declared.refusal.Refusal.the-variants as refusal
 use Rattle.bits.proofs.Refusals.{above-zero}
@@ -26,7 +26,7 @@ use Rattle.policies.specs.Judging.{addedOf, judgedOf}
 use Rattle.session.specs.declared.answer.Answer.{Answer as Given}
 use Rattle.session.specs.declared.place.Place.{Place}
 use Rattle.session.specs.declared.place.Place.the-variants.{At, Nowhere}
-use Rattle.session.specs.Calls.{Left, wrongMemory, refusedWith, Gives, settledIn}
+use Rattle.session.specs.Calls.{Left, refusedWith, Gives, settledIn}
 use Rattle.session.specs.Memory.{policyAt, size, decode}
 use Rattle.session.specs.Packets.{tagLength, wireLength, Effect, refuse, give, settled}
 use Rattle.session.specs.Places.{noRecord, placeFrom}

@@ -57,11 +57,10 @@ stretch-join a b e o k ks l h g q =
       ]
     ])
 
--- a part lent, and back with its stretch of the keystream
-pub stretch-part : (a e o : ℕ) (ks : ℕ → ℕ) (l ys : List ℕ) → a ≤ e → e ≤ length l → ys ≡ xorPad (λ k. ks (o + k)) (take (e - a) (drop a l))
-    → take a l ++ (ys ++ drop (e - a) (drop a l)) ≡ xorPad (stretchPad a e o ks) l
-stretch-part a e o ks l ys h n ey =
-    let f = stretchPad a e o ks in
+-- a part lent, and back with its pad, where nothing else has one
+part-pad : (f : ℕ → ℕ) (a e : ℕ) (l ys : List ℕ) → a ≤ e → e ≤ length l → ((i : ℕ) → i < a → f i ≡ 0) → ((i : ℕ) → e ≤ i → f i ≡ 0)
+    → ys ≡ xorPad (λ k. f (a + k)) (take (e - a) (drop a l)) → take a l ++ (ys ++ drop (e - a) (drop a l)) ≡ xorPad f l
+part-pad f a e l ys h n low high ey =
     let p = take a l in
     let q = take (e - a) (drop a l) in
     let r = drop (e - a) (drop a l) in
@@ -72,8 +71,27 @@ stretch-part a e o ks l ys h n ey =
     (ap (xorPad f) (sym whole)
     ∙ pad-append f p (q ++ r)
     ∙ ap₂ (λ (u v : List ℕ). u ++ v)
-    (pad-none f p (λ i b. at-before a e o ks i (omega arith)))
+    (pad-none f p (λ i b. low i (omega arith)))
     (pad-append (λ i. f (length p + i)) q r
     ∙ ap₂ (λ (u v : List ℕ). u ++ v)
-    (pad-ext (λ i. f (length p + i)) (λ k. ks (o + k)) q (λ i b. at-in a e o ks (length p + i) (o + i) (omega arith) (omega arith) (omega arith)) ∙ sym ey)
-    (pad-none (λ i. f (length p + (length q + i))) r (λ i b. at-past a e o ks (length p + (length q + i)) (omega arith) (omega arith)))))
+    (ap (λ (m : ℕ). xorPad (λ k. f (m + k)) q) lp ∙ sym ey)
+    (pad-none (λ i. f (length p + (length q + i))) r (λ i b. high (length p + (length q + i)) (omega arith)))))
+
+-- with its stretch of the keystream, all of it or only its first n bytes
+pub stretch-part : (a e o : ℕ) (ks : ℕ → ℕ) (l ys : List ℕ) → a ≤ e → e ≤ length l → ys ≡ xorPad (λ k. ks (o + k)) (take (e - a) (drop a l))
+    → take a l ++ (ys ++ drop (e - a) (drop a l)) ≡ xorPad (stretchPad a e o ks) l
+stretch-part a e o ks l ys h n ey =
+    let lq : length (take (e - a) (drop a l)) ≡ e - a = length-take-le (e - a) (drop a l) (simp length-drop (omega arith)) in
+    part-pad (stretchPad a e o ks) a e l ys h n (at-before a e o ks) (λ i b. at-past a e o ks i (omega arith) b)
+    (ey ∙ pad-ext (λ k. ks (o + k)) (λ k. stretchPad a e o ks (a + k)) (take (e - a) (drop a l)) (λ k b. sym (at-in a e o ks (a + k) (o + k) (omega arith) (omega arith) (omega arith))))
+
+pub stretch-front : (a e n o : ℕ) (ks : ℕ → ℕ) (l ys : List ℕ) → a ≤ e → e ≤ length l → a + n ≤ e → ys ≡ xorPad (stretchPad 0 n o ks) (take (e - a) (drop a l))
+    → take a l ++ (ys ++ drop (e - a) (drop a l)) ≡ xorPad (stretchPad a (a + n) o ks) l
+stretch-front a e n o ks l ys h m w ey =
+    let f = stretchPad a (a + n) o ks in
+    part-pad f a e l ys h m (at-before a (a + n) o ks) (λ i b. at-past a (a + n) o ks i (omega arith) (omega arith))
+    (ey ∙ pad-ext (stretchPad 0 n o ks) (λ k. f (a + k)) (take (e - a) (drop a l))
+    (λ k b. elim (decLt k n) [
+      | yes u ↦ at-in 0 n o ks k (o + k) (omega arith) u (omega arith) ∙ sym (at-in a (a + n) o ks (a + k) (o + k) (omega arith) (omega arith) (omega arith))
+      | no u ↦ at-past 0 n o ks k (omega arith) (omega arith) ∙ sym (at-past a (a + n) o ks (a + k) (omega arith) (omega arith))
+    ]))

@@ -9,14 +9,15 @@ use packet_vectors::packets;
 use text::words::place_of;
 
 // A vector of up to three words of hex. What they are for, the first letter of the word behind the name says: aes, sha1, repeated, hmac, keystream,
-// derived, pad, mask, element, cryptex or both. `number` is the last one in the name.
+// neighbours, derived, pad, mask, element, cryptex or both. `number` is the last one in the name.
 fn vector(kind: u8, number: u64, name: &[u8], a: &[u8], b: &[u8], c: &mut [u8]) {
     match kind {
         b'a' => ciphers::block(a, b),
         b's' => hashes::hash(a),
         b'r' => hashes::repeated(),
         b'h' => hashes::code(a, b),
-        b'k' => ciphers::keystream(a, b, number as usize),
+        b'k' => ciphers::keystream(a, b, number),
+        b'n' => ciphers::neighbours(a, b, number),
         b'd' => ciphers::derived(a, b, number),
         b'p' => extensions::pad(a, b),
         b'm' => extensions::masked(a, b, c),

@@ -1,5 +1,6 @@
 pub mod Forms
 pub mod Wires
 pub mod RoundTrips
+pub mod Sizes
 pub mod Tagging
 pub mod Restoring

@@ -23,6 +23,7 @@ use Rattle.wire.specs.Wire.{restoreOf}
 use Rattle.wire.proofs.Forms.{written-length, written-other}
 use Rattle.wire.proofs.Wires.{restore-is}
 use Rattle.wire.proofs.RoundTrips.{Passed, not-both}
+use Rattle.wire.proofs.Sizes.{received-length, received-at, received-layout}
 use Rattle.wire.proofs.Tagging.{is-untagged, not-untagged}
 
 module _ (t : ℕ) (keys : Keys) (policy : Policy) (listed : ℕ → Bool) (ssrc index : ℕ) (w : List ℕ) (d : Passed Receiving policy t w) where
@@ -32,16 +33,15 @@ module _ (t : ℕ) (keys : Keys) (policy : Policy) (listed : ℕ → Bool) (ssrc
 
   body-length : length body ≡ length w - t
   unfolding body
-  body-length = length-take-le (length w - t) w (omega arith)
+  body-length = received-length t policy w d
 
   body-at : (i : ℕ) → i < length w - t → getD body i 0 ≡ getD w i 0
   unfolding body
-  body-at i b = getD-take (length w - t) w i 0 b
+  body-at = received-at t policy w d
 
   body-layout : layoutOf body ≡ layoutOf w
-  body-layout =
-      let s = sound w in
-      layout-same w body (body-at 0 (omega (arith, d .long))) (λ x i a b. body-at i (omega (arith, s .four x, s .payload, d .fits)))
+  unfolding body
+  body-layout = received-layout t policy w d
 
   opened : List ℕ
   opened = cipherOf keys policy listed ssrc index body

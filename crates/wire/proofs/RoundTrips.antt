@@ -107,7 +107,7 @@ or-equal a u v e = go (eqb a u) refl e
     go true h k = inl (eqb-true a u h)
     go false h k = inr (eqb-true a v k)
 
-sent-tag : (policy : Policy) (h : Layout) → profileFits Sending policy h ≡ true → (usesCryptex policy && h .x) ≡ true → (h .tag ≡ 0xBEDE) ⊎ (h .tag ≡ 0x1000)
+pub sent-tag : (policy : Policy) (h : Layout) → profileFits Sending policy h ≡ true → (usesCryptex policy && h .x) ≡ true → (h .tag ≡ 0xBEDE) ⊎ (h .tag ≡ 0x1000)
 sent-tag policy h e u = or-equal (h .tag) 0xBEDE 0x1000 (rw u at e)
 
 got-tag : (policy : Policy) (h : Layout) → ((usesCryptex policy && h .x) ≡ true → isCryptexTag (h .tag) ≡ true)

@@ -7,10 +7,12 @@ pub mod ends;
 pub mod layout;
 pub mod limits;
 pub mod masked;
+pub mod pieces;
 pub mod required;
 pub mod single;
 pub mod spoil;
 pub mod stage;
+pub mod stretches;
 pub mod talk;
 
 use stage::Stage;
@@ -20,11 +22,13 @@ type Scene = fn(&mut Stage) -> Option<()>;
 
 /// The scenes, each with how often it comes relative to the others. Their order decides what a seed
 /// gives: with this one, 3,000 calls of seed 9335 already meet every refusal.
-const SCENES: [(&str, u64, Scene); 15] = [
+const SCENES: [(&str, u64, Scene); 17] = [
     ("talk", 6, talk::talk),
     ("window", 3, talk::window),
     ("late", 1, talk::late),
     ("far", 3, talk::far),
+    ("pieces", 2, pieces::pieces),
+    ("stretches", 4, stretches::stretches),
     ("last", 4, talk::last),
     ("required", 2, required::required),
     ("cross", 4, talk::cross),

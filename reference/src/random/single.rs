@@ -1,5 +1,5 @@
 //! Scenes of single calls: making sessions with good and bad keys, hostile packets to every call,
-//! and the calls that need no session (find, guess, mask).
+//! and three calls that need no session (find, guess, mask).
 
 use super::craft;
 use super::dice::Dice;

@@ -3,10 +3,12 @@
 use super::dice::Dice;
 use super::spoil;
 use crate::hex;
+use crate::keystream::Keystream;
 use crate::script::Desk;
 use std::io::{self, Write};
 
-/// What a call answered. Length and buffer are those of packet calls.
+/// What a call answered. The length is a packet call's, the buffer a packet call's or the data of a
+/// stretch.
 pub struct Answer {
     pub number: u64,
     pub length: usize,
@@ -79,6 +81,13 @@ impl<'a> Stage<'a> {
         Some(read_answer(&answer))
     }
 
+    /// Writes and runs a line that cannot be read; it is no call.
+    pub fn unreadable(&mut self, line: &[u8]) {
+        if self.is_open() {
+            self.line(line);
+        }
+    }
+
     /// A decimal number, now and then with leading zeros.
     pub fn decimal(&mut self, number: u64) -> String {
         if self.dice.one_in(30) {
@@ -107,6 +116,13 @@ impl<'a> Stage<'a> {
         self.call(format!("state {session}"))
     }
 
+    pub fn stretch(&mut self, keystream: &Keystream, start: u64, data: &[u8]) -> Option<Answer> {
+        let Keystream { key, salt, ssrc, index } = keystream;
+        let (index, start) = (self.decimal(*index as u64), self.decimal(start));
+        let (key, salt, data) = (hex::write(key), hex::write(salt), hex::write(data));
+        self.call(format!("stretch {key} {salt} {ssrc:08x} {index} {start} {data}"))
+    }
+
     pub fn make(
         &mut self,
         session: u64,
@@ -132,6 +148,6 @@ fn read_answer(answer: &[u8]) -> Answer {
         let word = words.get(place).copied().unwrap_or(b"");
         String::from_utf8_lossy(word).parse().unwrap_or(0)
     };
-    let buffer = words.get(2).and_then(|word| hex::read(word, 4_096));
+    let buffer = words[1..].last().and_then(|word| hex::read(word, 4_096));
     Answer { number: number(0), length: number(1) as usize, buffer: buffer.unwrap_or_default() }
 }

@@ -10,8 +10,8 @@ array-read-x c = search needs
 array-write-x : tie.Need-array-write-x
 array-write-x c = search needs
 
-xor-portion-requires : tie.Need-xor-portion-requires
-xor-portion-requires c κs = search needs
+stretch-requires : tie.Need-stretch-requires
+stretch-requires c κs = search needs
 
 same-length : tie.Need-same-length
 same-length c = search needs
@@ -21,8 +21,8 @@ returns c =
     let x = c .before .before in
     let s = x .before .before .before in
     let a = s .args in
-    derived-is (a .key) (a .salt) (a .label) (a .zeros .now) (x .xor-portion .last .1 .1 .1 .1 .0) (s .pre .0) (x .xor-portion .ensures)
+    derived-is (a .key) (a .salt) (a .label) (a .zeros .now) (x .stretch .last .1 .1 .1 .1 .1 .0) (s .pre .0) (s .pre .1) (x .stretch .ensures .1)
 
 pub derived-spec : {M : Type 1} → statement M
 derived-spec =
-    tie.close (tie.spec array-read-x array-write-x xor-portion-requires same-length returns)
+    tie.close (tie.spec array-read-x array-write-x stretch-requires same-length returns)

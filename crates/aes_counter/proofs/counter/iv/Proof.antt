@@ -55,51 +55,57 @@ array-read-t40 c = search needs
 array-read-t44 : tie.Need-array-read-t44
 array-read-t44 c = search needs
 
-array-read-t47 : tie.Need-array-read-t47
-array-read-t47 c = search needs
+array-read-t48 : tie.Need-array-read-t48
+array-read-t48 c = search needs
 
 array-read-t51 : tie.Need-array-read-t51
 array-read-t51 c = search needs
 
-array-read-t54 : tie.Need-array-read-t54
-array-read-t54 c = search needs
+array-read-t55 : tie.Need-array-read-t55
+array-read-t55 c = search needs
 
-array-read-t58 : tie.Need-array-read-t58
-array-read-t58 c = search needs
+array-read-t59 : tie.Need-array-read-t59
+array-read-t59 c = search needs
 
-array-read-t61 : tie.Need-array-read-t61
-array-read-t61 c = search needs
+array-read-t62 : tie.Need-array-read-t62
+array-read-t62 c = search needs
 
-array-read-t65 : tie.Need-array-read-t65
-array-read-t65 c = search needs
+array-read-t66 : tie.Need-array-read-t66
+array-read-t66 c = search needs
 
-array-read-t68 : tie.Need-array-read-t68
-array-read-t68 c = search needs
+array-read-t69 : tie.Need-array-read-t69
+array-read-t69 c = search needs
 
-array-read-t72 : tie.Need-array-read-t72
-array-read-t72 c = search needs
+array-read-t73 : tie.Need-array-read-t73
+array-read-t73 c = search needs
 
-array-read-t75 : tie.Need-array-read-t75
-array-read-t75 c = search needs
+array-read-t76 : tie.Need-array-read-t76
+array-read-t76 c = search needs
 
-array-read-t79 : tie.Need-array-read-t79
-array-read-t79 c = search needs
+array-read-t80 : tie.Need-array-read-t80
+array-read-t80 c = search needs
 
-array-read-t82 : tie.Need-array-read-t82
-array-read-t82 c = search needs
+array-read-t83 : tie.Need-array-read-t83
+array-read-t83 c = search needs
 
-array-read-t86 : tie.Need-array-read-t86
-array-read-t86 c = search needs
+array-read-t87 : tie.Need-array-read-t87
+array-read-t87 c = search needs
 
-array-read-t89 : tie.Need-array-read-t89
-array-read-t89 c = search needs
+array-read-t90 : tie.Need-array-read-t90
+array-read-t90 c = search needs
+
+array-read-t94 : tie.Need-array-read-t94
+array-read-t94 c = search needs
+
+array-read-t97 : tie.Need-array-read-t97
+array-read-t97 c = search needs
 
 returns : tie.Need-returns
 returns c =
     let q = c .before in
     let s = q .before in
     iv-is (s .args .t1) (q .write32 .result) (c .write64 .result) (s .args .ssrc) (s .args .index) (fourteen s) (are-bytes (s .args .t1) (λ k. byte s k .fits))
-    (s .fits .ssrc .fits) (s .pre) (q .write32 .ensures) (c .write64 .ensures)
+    (s .fits .ssrc .fits) (s .fits .index .fits) (q .write32 .ensures) (c .write64 .ensures)
 
 pub iv-spec : {M : Type 1} → statement M
 iv-spec =
@@ -118,17 +124,19 @@ iv-spec =
     array-read-t37
     array-read-t40
     array-read-t44
-    array-read-t47
+    array-read-t48
     array-read-t51
-    array-read-t54
-    array-read-t58
-    array-read-t61
-    array-read-t65
-    array-read-t68
-    array-read-t72
-    array-read-t75
-    array-read-t79
-    array-read-t82
-    array-read-t86
-    array-read-t89
+    array-read-t55
+    array-read-t59
+    array-read-t62
+    array-read-t66
+    array-read-t69
+    array-read-t73
+    array-read-t76
+    array-read-t80
+    array-read-t83
+    array-read-t87
+    array-read-t90
+    array-read-t94
+    array-read-t97
     returns)

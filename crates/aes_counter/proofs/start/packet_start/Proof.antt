@@ -22,7 +22,7 @@ iv-requires : tie.Need-iv-requires
 iv-requires c κs = search needs
 
 start-at-requires : tie.Need-start-at-requires
-start-at-requires c κs = c .before .pre .0
+start-at-requires c κs = c .before .pre
 
 returns : tie.Need-returns
 returns c =
@@ -31,7 +31,7 @@ returns c =
     let e = c .start-at .ensures in (
       (e .0, e .1 .1),
       λ k h. ap₂ (λ (x y : List ℕ). byteFrom x y k) (e .0) (e .1 .0 ∙ c .before .iv .ensures)
-          ∙ byte-is (a .key) (a .salt) (a .ssrc) (a .index) (fourteen s) (are-bytes (a .salt) (λ n. byte s n .fits)) (s .fits .ssrc .fits) (s .pre .1) k h,
+          ∙ byte-is (a .key) (a .salt) (a .ssrc) (a .index) (fourteen s) (are-bytes (a .salt) (λ n. byte s n .fits)) (s .fits .ssrc .fits) (s .fits .index .fits) k h,
     )
 
 pub packet-start-spec : {M : Type 1} → statement M

@@ -35,7 +35,7 @@ stepped : (q : tie.After-is-listed Inv-loop μ-loop) → Stepped (entry (turn q)
 stepped q = next-at _ _ _ _ (sym (q .before .before .before .before .before .next .ensures) ∙ q .before .before .before .element .given .1)
 
 loop-holds : tie.Need-loop-holds Inv-loop μ-loop
-loop-holds c = (masking-start _ _ _ _ (c .before .pre .1 .1 .0), (omega arith, fresh _ _ _))
+loop-holds c = (masking-start _ _ _ _ (c .before .pre .1 .1 .0), (omega arith, fresh _ _ _ 0 refl))
 
 next-requires : tie.Need-next-requires Inv-loop μ-loop
 next-requires c κs = search needs

@@ -20,14 +20,14 @@ round-keys-requires : tie.Need-round-keys-requires
 round-keys-requires c κs = search needs
 
 packet-start-requires : tie.Need-packet-start-requires
-packet-start-requires c κs = let k = c .before in (lends k, entry k .pre .1 .0)
+packet-start-requires c κs = lends (c .before)
 
 crypt-by-requires : tie.Need-crypt-by-requires
 crypt-by-requires c κs =
     let g = c .before .before in
     let k = g .before .before in
     let e = g .packet-start .ensures .0 in
-    (lent-start _ _ _ _ (g .packet-start .result) (e .0) (lends k), (e .1, entry k .pre .1 .1))
+    (lent-start _ _ _ _ (g .packet-start .result) (e .0) (lends k), (e .1, entry k .pre .1))
 
 same-length : tie.Need-same-length
 same-length c = search needs
@@ -40,7 +40,7 @@ returns c =
     let a = s .args in
     let start = g .packet-start .result in
     masked-is-stream _ (a .tag) (byteFrom (start .key) (start .block)) (keystreamOf (a .key) (a .salt) (a .ssrc) (a .index)) (g .packet-start .ensures .1)
-    (a .block .now) _ (s .pre .1 .1 .1) (b .crypt-by .ensures)
+    (a .block .now) _ (s .pre .1 .1) (b .crypt-by .ensures)
 
 pub crypt-elements-spec : {M : Type 1} → statement M
 crypt-elements-spec =

@@ -36,7 +36,7 @@ round-table-requires c κs = search needs
 crypt-elements-requires : tie.Need-crypt-elements-requires
 crypt-elements-requires c κs =
     let s = c .before .before .before .before .before .before .before .before .before .before .before in
-    ((search needs, search needs), (omega arith, (sym (s .before .whole .ensures) ∙ not-false _ (s .if2 .left), omega arith)))
+    ((search needs, search needs), (sym (s .before .whole .ensures) ∙ not-false _ (s .if2 .left), omega arith))
 
 put-line-requires : tie.Need-put-line-requires
 put-line-requires c κs = search needs

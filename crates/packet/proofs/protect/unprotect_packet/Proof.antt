@@ -70,7 +70,7 @@ decrypt-requires : tie.Need-decrypt-requires
 decrypt-requires c κs =
     let s = c .before .before .before .before .before .before .before .before .before .before .before .before in
     let z : s .args .n - 10 - 0 ≡ s .args .n - 10 = omega arith in
-    ((rw z (read (s .args .policy) 10 (s .args .buf .now) (s .args .n) (s .args .h) (s .pre .1 .0) (s .pre .1 .1)), (rw z (fits (s .args .policy) 10 (s .args .buf .now) (s .args .n) (s .args .h) (s .pre .1 .0) (s .pre .1 .1)), rw z (small (s .args .policy) 10 (s .args .buf .now) (s .args .n) (s .args .h) (s .pre .1 .0) (s .pre .1 .1)))), (s .pre .0, rw z (elements (s .args .policy) 10 (s .args .buf .now) (s .args .n) (s .args .h) (s .pre .1 .0) (s .pre .1 .1))))
+    ((rw z (read (s .args .policy) 10 (s .args .buf .now) (s .args .n) (s .args .h) (s .pre .1 .0) (s .pre .1 .1)), (rw z (fits (s .args .policy) 10 (s .args .buf .now) (s .args .n) (s .args .h) (s .pre .1 .0) (s .pre .1 .1)), rw z (small (s .args .policy) 10 (s .args .buf .now) (s .args .n) (s .args .h) (s .pre .1 .0) (s .pre .1 .1)))), rw z (elements (s .args .policy) 10 (s .args .buf .now) (s .args .n) (s .args .h) (s .pre .1 .0) (s .pre .1 .1)))
 
 same-length-2 : tie.Need-same-length-2
 same-length-2 c = search needs

@@ -13,7 +13,7 @@ use Rattle.packet_cipher.proofs.Passes.{sound-read, whole-block, portio
 use Rattle.packet_cipher.proofs.cipher.crypt.Statement.{statement}
 use Rattle.packet_cipher.proofs.cipher.crypt.Tie as tie
 
-abbrev entry : tie.After-xor-portion-with → tie.Start
+abbrev entry : tie.After-xor-portion → tie.Start
 entry x = x .before .before .before .before .before .before .before .before .before .before .before
 
 abbrev stream : tie.Start → ℕ → ℕ
@@ -23,15 +23,15 @@ abbrev header-stream : tie.Start → ℕ → ℕ
 header-stream s = headerStreamOf (s .args .keys) (s .args .ssrc) (s .args .index)
 
 -- the packet after its own keystream
-abbrev passed : tie.After-xor-portion-with → List ℕ
-passed x = x .xor-portion-with .last .1 .1 .1 .1 .1 .1 .0
+abbrev passed : tie.After-xor-portion → List ℕ
+passed x = x .xor-portion .last .1 .1 .1 .1 .1 .1 .0
 
 -- under the mask that was the payload's
-payload-passed : (x : tie.After-xor-portion-with) → usesMask (entry x .args .policy) ≡ true
+payload-passed : (x : tie.After-xor-portion) → usesMask (entry x .args .policy) ≡ true
     → passed x ≡ xorPad (portionPadOf (portionOf false (entry x .args .h)) (stream (entry x))) (entry x .args .packet .now)
 payload-passed x m =
     let a = entry x .args in
-    payload-only (a .policy) (a .h) (stream (entry x)) (a .packet .now) m _ _ _ (x .before .before .before .before .before .is-cryptex .ensures) (x .before .before .before .before .encrypted-portion .ensures) (x .xor-portion-with .ensures)
+    payload-only (a .policy) (a .h) (stream (entry x)) (a .packet .now) m _ _ _ (x .before .before .before .before .before .is-cryptex .ensures) (x .before .before .before .before .encrypted-portion .ensures) (x .xor-portion .ensures)
 
 masks : (u : tie.After-uses-mask) → u .uses-mask .result ≡ true → usesMask (entry (u .before .before .before) .args .policy) ≡ true
 masks u e = sym (u .uses-mask .ensures) ∙ e
@@ -48,11 +48,11 @@ is-cryptex-requires c κs = search needs
 encrypted-portion-requires : tie.Need-encrypted-portion-requires
 encrypted-portion-requires c κs = search needs
 
-xor-portion-with-requires : tie.Need-xor-portion-with-requires
-xor-portion-with-requires c κs =
+xor-portion-requires : tie.Need-xor-portion-requires
+xor-portion-requires c κs =
     let s = c .before .before .before .before .before .before .before .before .before .before in
     let o = portion-order (c .before .before .before .before .is-cryptex .result) (s .args .h) _ (sound-read _ _ (s .pre .0 .0)) (s .pre .0 .1 .0) in
-    ((c .before .before .before .before .before .before .before .before .sbox .ensures, c .before .before .before .before .before .before .before .round-table .ensures), (s .pre .1 .0, rw (c .before .before .before .encrypted-portion .ensures) (o .0, (o .1 .0, (o .1 .1, omega arith)))))
+    ((c .before .before .before .before .before .before .before .before .sbox .ensures, c .before .before .before .before .before .before .before .round-table .ensures), rw (c .before .before .before .encrypted-portion .ensures) (o .0, (o .1 .0, (o .1 .1, omega arith))))
 
 uses-mask-requires : tie.Need-uses-mask-requires
 uses-mask-requires c κs = search needs
@@ -75,9 +75,9 @@ crypt-elements-requires c κs =
     let p = s .pre .0 in
     let m = masks (c .before .before .before .before .before .before) (c .before .before .before .before .before .if1 .taken) in
     let e = payload-passed x m in
-    let w = whole-block (a .policy) h (a .packet .now) m (s .pre .1 .1) in
+    let w = whole-block (a .policy) h (a .packet .now) m (s .pre .1) in
     let n = size-stays h (stream s) (a .packet .now) _ e (sound-read _ _ (p .0)) (p .1 .0) in
-    ((x .before .before .before .before .before .before .before .before .before .sbox .ensures, x .before .before .before .before .before .before .before .before .round-table .ensures), (s .pre .1 .0, (whole-stays h (stream s) (a .packet .now) _ e w, omega (arith, n, p .1 .0, p .1 .1))))
+    ((x .before .before .before .before .before .before .before .before .before .sbox .ensures, x .before .before .before .before .before .before .before .before .round-table .ensures), (whole-stays h (stream s) (a .packet .now) _ e w, omega (arith, n, p .1 .0, p .1 .1)))
 
 same-length : tie.Need-same-length
 same-length c = search needs
@@ -101,7 +101,7 @@ returns-2 c =
     let s = entry x in
     let a = s .args in
     crypted-plain (listedIn (a .ids .now)) (stream s) (header-stream s) (a .packet .now) (a .h) (s .pre .0 .0) (a .policy) (sym (c .before .uses-mask .ensures) ∙ c .if1 .left)
-    _ _ _ (x .before .before .before .before .before .is-cryptex .ensures) (x .before .before .before .before .encrypted-portion .ensures) (x .xor-portion-with .ensures)
+    _ _ _ (x .before .before .before .before .before .is-cryptex .ensures) (x .before .before .before .before .encrypted-portion .ensures) (x .xor-portion .ensures)
 
 pub crypt-spec : {M : Type 1} → statement M
 crypt-spec =
@@ -111,7 +111,7 @@ crypt-spec =
     round-table-requires
     is-cryptex-requires
     encrypted-portion-requires
-    xor-portion-with-requires
+    xor-portion-requires
     uses-mask-requires
     sub-crypt-elements
     part-crypt-elements-start

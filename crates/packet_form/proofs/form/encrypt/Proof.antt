@@ -13,9 +13,8 @@ say-cryptex-requires c κs = search needs
 crypt-requires : tie.Need-crypt-requires
 crypt-requires c κs =
     let t = c .before .before .before in
-    let s = t .before .before .before in
     let w = t .say-cryptex .ensures .1 in
-    rw (t .say-cryptex .ensures .0) ((w .layout, (omega (arith, w .inside, w .long), omega (arith, w .small, w .long))), (s .pre .0, w .elements))
+    rw (t .say-cryptex .ensures .0) ((w .layout, (omega (arith, w .inside, w .long), omega (arith, w .small, w .long))), w .elements)
 
 same-length : tie.Need-same-length
 same-length c = search needs

@@ -31,7 +31,7 @@ encrypt-requires c κs =
     let s = r .before .before .before in
     let w = r .raise .ensures .1 .1 in
     let f = part-front _ (givenBackOf (s .args .policy) (take (s .args .n) (s .args .buf .now))) (s .args .buf .now) _ (r .raise .ensures .1 .0) (w .long) in
-    (s .pre .0 .0, rw (f, w .long) w)
+    rw (f, w .long) w
 
 same-length : tie.Need-same-length
 same-length c = search needs
