@@ -10,8 +10,8 @@
  *
  * What a call can rely on, and what it need not: any length, number, packet or session memory may be passed, also memory that was never made or was
  * overwritten: it then counts as a session without streams, or as whatever session it happens to hold, and no call reads or writes outside what it
- * was lent. A refusal changes nothing (but delugash_make refused with _KEYS or _POLICY leaves a session that takes no stream). The caller's duty as to memory is only this (delugash_stretch lays
- * another on you: see its warning):
+ * was lent. A refusal changes nothing (but delugash_make refused with _KEYS or _POLICY leaves a session that takes no stream). The caller's duty as to
+ * memory is only this (delugash_stretch lays another on you: see its warning):
  *   - as much memory as its length says belongs to a pointer; where the length is 0, the pointer may be anything, NULL too;
  *   - memory that a call may write (session, buf) overlaps no other memory of the same call;
  *   - no two threads are in calls on the same session at the same time. Calls on different sessions share nothing.
@@ -125,8 +125,8 @@ delugash_part delugash_find(const uint8_t *packet, size_t length, uint32_t id);
  *     SSRC, so that it gives another SSRC's keystream. Never pass one.
  *   - start is 0 for the first byte that is encrypted, which is not the packet's first: the payload's or, under Cryptex, the first contributor's. The extension header
  *     uses none, so that block and payload follow at 4 * CC.
- * Gives DELUGASH_OK; or _SIZES; or _LARGE where start + length is over 2^20, also for length 0. Look at the number: with a refusal the buffer is as it was, in clear, and of two
- * stretches the front can be encrypted while the back is refused.
+ * Gives DELUGASH_OK; or _SIZES; or _LARGE where start + length is over 2^20, also for length 0. Look at the number: with a refusal the buffer is as it was, in clear,
+ * and of two stretches the front can be encrypted while the back is refused.
  *
  * WARNING: keystream that is used twice gives the audio away. Whoever catches two buffers that were encrypted with the same bytes of keystream has the XOR of their plain
  * bytes without any key, which is mostly enough for both; who knows one has the other at once. So under one key and salt, byte k of the keystream of one SSRC and index

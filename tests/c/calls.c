@@ -242,11 +242,13 @@ static const struct {
 static uint32_t stretch(uint64_t start, uint8_t *bytes, size_t length)
 {
     uint8_t *buf = malloc(length);
-    if (buf == NULL)
+    if (buf == NULL && length > 0)
         exit(2);
-    memcpy(buf, bytes, length);
+    if (length > 0)
+        memcpy(buf, bytes, length);
     uint32_t number = delugash_stretch(stream_key, sizeof stream_key, stream_salt, sizeof stream_salt, 0, 0, start, buf, length);
-    memcpy(bytes, buf, length);
+    if (length > 0)
+        memcpy(bytes, buf, length);
     free(buf);
     return number;
 }
