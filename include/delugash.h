@@ -56,7 +56,7 @@ enum {
     DELUGASH_RECEIVING = 1
 };
 
-/* What calls give back. Where several apply: DELUGASH_MEMORY, DELUGASH_WAY or DELUGASH_SIZES, in this order, then the smallest number. */
+/* What calls give back. Where several apply: DELUGASH_MEMORY, then DELUGASH_WAY; of a stretch DELUGASH_SIZES; then the smallest number. */
 enum {
     DELUGASH_OK = 0,
     DELUGASH_LENGTH = 1,    /* n is more than the buffer's length */
@@ -123,8 +123,9 @@ delugash_part delugash_find(const uint8_t *packet, size_t length, uint32_t id);
  *     is the session keys.
  *   - index is the packet's: rollover counter * 65,536 + sequence number, below 2^48. A larger one is not refused, and is no packet's: its upper bits go onto the
  *     SSRC, so that it gives another SSRC's keystream. Never pass one.
- *   - start is 0 for the first byte that is encrypted, which is not the packet's first: the payload's or, under Cryptex, the first contributor's. The extension header
- *     uses none, so that block and payload follow at 4 * CC.
+ *   - start is 0 for the first byte that is encrypted, which is not the packet's first: the payload's or, under Cryptex, that of contributors, block and payload. The
+ *     extension header uses none, so that block and payload follow at 4 * CC. An element under the mask takes RFC 6904's header key and salt, and start is the place of
+ *     its data in the block.
  * Gives DELUGASH_OK; or _SIZES; or _LARGE where start + length is over 2^20, also for length 0. Look at the number: with a refusal the buffer is as it was, in clear,
  * and of two stretches the front can be encrypted while the back is refused.
  *

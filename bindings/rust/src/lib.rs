@@ -144,7 +144,8 @@ pub fn find(packet: &[u8], id: u8) -> Result<&[u8], Error> {
 ///
 /// Key and salt are those that RFC 3711 (4.3) derives for the session, never the master ones that [`Session::new`] takes: their keystream is the session keys. The index is
 /// the packet's, rollover counter * 65,536 + sequence number, below 2^48; a larger one gives another SSRC's keystream, so never pass one. `start` is 0 for the first byte that is
-/// encrypted: the payload's or, under Cryptex, the first contributor's.
+/// encrypted: the payload's or, under Cryptex, that of contributors, block and payload. An element under the mask takes RFC 6904's header key and salt, and `start` is the
+/// place of its data in the block.
 ///
 /// [`Error::Large`] where start + length is over 2^20; the buffer is as it was then, in clear.
 ///

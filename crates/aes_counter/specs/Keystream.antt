@@ -8,7 +8,7 @@ use Rattle.aes_tables.specs.Cipher.{stateOf, bytesOf}
 use Rattle.aes_tables.specs.Keys.{aes128Of}
 
 -- IV = (k_s * 2^16) XOR (SSRC * 2^64) XOR (i * 2^16), with the salt k_s of 14 bytes and the SSRC below 2^32. The index i of a packet is below 2^48.
--- The equation has a value for every other number too: from 2^48 on it is that of another SSRC's packet, since the index then reaches into the SSRC.
+-- The equation has a value for every other number too: a 64-bit one from 2^48 on reaches into the SSRC, and its value is that of another SSRC's packet.
 unfoldable pub ivOf : List ℕ → ℕ → ℕ → ℕ
 ivOf salt ssrc i = (fromBytes salt * 2 ^ 16) ⊕ (ssrc * 2 ^ 64) ⊕ (i * 2 ^ 16)
 

@@ -21,6 +21,7 @@ use Rattle.rtp_elements.specs.Mask.{maskOf, maskedPad, maskedOf}
 use Rattle.rtp_elements.proofs.Walks.{masked-is}
 use Rattle.rtp_claims.specs.Claims.{covered}
 use Rattle.rtp_claims.proofs.Covering.{mask-on-data}
+use Rattle.rtp_claims.proofs.Members.{begins-inside, covered-in}
 use Rattle.policies.specs.declared.policy.Policy.{Policy}
 use Rattle.policies.specs.declared.policy.Policy.the-variants.{Mask}
 use Rattle.policies.specs.declared.policy.Way.the-variants.{Sending, Receiving}
@@ -37,7 +38,6 @@ use Rattle.wire.specs.Wire.{givenBackOf}
 use Rattle.wire.proofs.RoundTrips.{passed}
 use Rattle.wire.proofs.Sizes.{sent-fits, received-fits}
 use Rattle.packet_stretches.specs.Claims.{Fits, encryptedOf, TwoStretches, UnderTheMask, PacketsAreStretches, KeysAreStretches}
-use Rattle.packet_stretches.proofs.Elements.{begins-inside, covered-in}
 
 -- ---- policies 0 to 2
 

@@ -1,3 +1,4 @@
 pub mod Naming
 pub mod Covering
 pub mod Alike
+pub mod Members
