@@ -119,7 +119,7 @@ delugash_part delugash_find(const uint8_t *packet, size_t length, uint32_t id);
 
 /* The keystream alone, for who encrypts a packet's front and back in separate moments: XORs onto buf[0 .. length) the AES-CM keystream of RFC 3711, 4.1.1, from its
  * byte `start` on. It uses no session. The same call decrypts. Two stretches that meet give what the joined one gives, wherever the joined one is not refused.
- *   - key and salt are those that RFC 3711, 4.3, derives for the session, 16 and 14 bytes. The library hands none out. Never pass the master ones: their keystream
+ *   - key and salt are those that RFC 3711, 4.3, derives for the session, 16 and 14 bytes. No call hands them out. Never pass the master ones: their keystream
  *     is the session keys.
  *   - index is the packet's: rollover counter * 65,536 + sequence number, below 2^48. A larger one is not refused, and is no packet's: its upper bits go onto the
  *     SSRC, so that it gives another SSRC's keystream. Never pass one.

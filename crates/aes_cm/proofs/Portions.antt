@@ -1,7 +1,6 @@
 -- The pad of a portion, place by place.
 use mathlib.Core.Path.{_≡_}
 use Prim.Native.Nat.{ℕ, _+_, _-_, _≤_, _<_}
-use native.Mathlib.Omega.{arith}
 use borrow.Author.Tests.{lt-ltb, le-ltb}
 use Rattle.aes_cm.specs.Portion.{portionPad}
 

@@ -4,7 +4,6 @@ use mathlib.Core.List.{List}
 use Prim.Native.Nat.{ℕ}
 use borrow.Author.Tests.{eq-eqb, ne-eqb}
 use lib.ListN.{length}
-use Rattle.stretches.specs.Stretch.{Stretched}
 use Rattle.keystream.specs.Stretch.{stretchOf}
 use Rattle.keystream.specs.Call.{stretchCall}
 

@@ -5,7 +5,6 @@ use mathlib.Core.List.{List, _∷_, _++_}
 use Prim.Native.Nat.{ℕ, _+_, _-_, _≤_, _<_, min}
 use native.Mathlib.Omega.{arith}
 use lib.ListN.{length, getD, take, drop, replicate, length-take, length-drop, length-replicate}
-use Rattle.bits.specs.Pick.{pick}
 use Rattle.bits.specs.Xor.{xorPad}
 use Rattle.bits.proofs.Xor.{pad-ext, pad-stays}
 use Rattle.stretches.specs.Stretch.{keystreamEnd, stretchBy}
@@ -28,9 +27,8 @@ use Rattle.policies.specs.declared.policy.Way.the-variants.{Sending, Receiving}
 use Rattle.policies.specs.Cryptex.{isCryptex, taggedOf}
 use Rattle.policies.specs.Policies.{usesMask}
 use Rattle.policies.proofs.Layouts.{sound}
-use Rattle.packet_cipher.specs.declared.cipher.Portion.{Portion}
 use Rattle.packet_cipher.specs.declared.keys.Keys.{Keys}
-use Rattle.packet_cipher.specs.Cipher.{portionOf, streamOf, headerStreamOf, cipherOf}
+use Rattle.packet_cipher.specs.Cipher.{streamOf, headerStreamOf, cipherOf}
 use Rattle.packet_cipher.proofs.Pads.{take-pad, drop-pad}
 use Rattle.packet_cipher.proofs.Passes.{portion-order, one-pass}
 use Rattle.packet_cipher.proofs.Crypting.{crypted-block, head-stays, payload-crypted}

@@ -4,7 +4,7 @@ use mathlib.Core.List.{List, _++_}
 use Prim.Native.Nat.{ℕ, _+_, _-_, _/_, _^_, _≤_, _<_}
 use lib.ListN.{length, take, drop}
 use Rattle.bits.specs.Xor.{xorPad}
-use Rattle.stretches.specs.Stretch.{Stretched, stretchBy, stretchPad}
+use Rattle.stretches.specs.Stretch.{stretchBy, stretchPad}
 
 -- "Two neighbouring stretches give what one joined stretch gives, wherever the joined one isn't refused": for every keystream, start and buffer, wherever
 -- the buffer is cut in two. The second ends where the joined one does, so it has its number, LARGE too; the first may be taken where the joined one is LARGE.

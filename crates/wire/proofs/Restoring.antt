@@ -6,7 +6,6 @@ use mathlib.Core.List.{List}
 use Prim.Native.Nat.{ℕ, _+_, _-_, _≤_, _<_}
 use native.Mathlib.Omega.{arith}
 use lib.ListN.{length, getD, take}
-use lib.Seq.{getD-take, length-take-le}
 use Rattle.bits.specs.Xor.{_⊕_}
 use Rattle.bits.proofs.Xor.{xor-twice}
 use Rattle.rtp_header.specs.Header.{layoutOf}
@@ -18,7 +17,7 @@ use Rattle.policies.specs.declared.policy.Policy.the-variants.{Plain}
 use Rattle.policies.specs.declared.policy.Way.the-variants.{Receiving}
 use Rattle.policies.specs.Policies.{usesCryptex, usesMask}
 use Rattle.policies.specs.Cryptex.{isCryptexTag, isCryptex, plainTag, written16, untaggedOf}
-use Rattle.policies.proofs.Layouts.{sound, layout-same}
+use Rattle.policies.proofs.Layouts.{sound}
 use Rattle.wire.specs.Wire.{restoreOf}
 use Rattle.wire.proofs.Forms.{written-length, written-other}
 use Rattle.wire.proofs.Wires.{restore-is}

@@ -1,16 +1,15 @@
 -- What goes under the cipher, of a packet that is not refused with 2 to 7: its header lies inside it, and it has at most 2,048 bytes.
 use mathlib.Core.Path.{_≡_, ap}
 use mathlib.Core.List.{List}
-use Prim.Native.Nat.{ℕ, _+_, _-_, _≤_, _<_}
+use Prim.Native.Nat.{ℕ, _-_, _≤_, _<_}
 use native.Mathlib.Omega.{arith}
 use lib.ListN.{length, getD, take}
 use lib.Seq.{length-take-le, getD-take}
-use Rattle.bits.specs.Pick.{pick}
 use Rattle.rtp_header.specs.declared.header.Layout.{Layout}
 use Rattle.rtp_header.specs.Header.{layoutOf}
 use Rattle.policies.specs.declared.policy.Policy.{Policy}
 use Rattle.policies.specs.declared.policy.Way.the-variants.{Sending, Receiving}
-use Rattle.policies.specs.Cryptex.{addsBlock, taggedOf}
+use Rattle.policies.specs.Cryptex.{taggedOf}
 use Rattle.policies.proofs.Layouts.{sound, layout-same}
 use Rattle.wire.specs.Wire.{givenBackOf}
 use Rattle.wire.proofs.Forms.{Ready, tagged, given-back}

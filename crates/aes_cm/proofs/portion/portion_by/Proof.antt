@@ -1,13 +1,11 @@
 -- `aes_cm::portion::portion_by` meets its contract: two stretches of one keystream, of which the first may be empty.
-use mathlib.Core.Path.{_≡_, refl, _∙_}
-use mathlib.Core.Bool.{false}
+use mathlib.Core.Path.{_≡_, refl}
 use mathlib.Core.List.{List, _++_}
 use Prim.Native.Nat.{ℕ, _+_, _-_}
 use native.Mathlib.Omega.{arith}
 use borrow.Author.Needs.{needs}
 use lib.ListN.{length, take, drop}
 use Rattle.aes.specs.Blocks.{byteFrom}
-use Rattle.stretches.specs.Stretch.{isLarge}
 use Rattle.stretches.proofs.Parts.{not-large, part-length}
 use Rattle.aes_keystream.proofs.Walks.{fresh}
 use Rattle.aes_cm.proofs.Streams.{one-part, length-after, two-parts}

@@ -1,5 +1,4 @@
 -- `aes_cm::portion::xor_portion` meets its contract: the portion by the blocks of its key and its first counter block.
-use mathlib.Core.Path.{_≡_}
 use borrow.Author.Needs.{needs}
 use Rattle.aes.specs.Blocks.{byteFrom, Lent}
 use Rattle.aes.proofs.Borders.{lent, lent-start}

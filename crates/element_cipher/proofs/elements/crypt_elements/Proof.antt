@@ -1,5 +1,4 @@
 -- `element_cipher::elements::crypt_elements` meets its contract: the elements by the blocks of the key and its first counter block.
-use mathlib.Core.Path.{_≡_}
 use borrow.Author.Needs.{needs}
 use Rattle.aes.specs.Blocks.{byteFrom, Lent}
 use Rattle.aes.proofs.Borders.{lent, lent-start}

@@ -1,7 +1,5 @@
 -- `keystream::call::stretch_call` meets its contract.
 use mathlib.Core.Path.{_≡_, sym, ap, _∙_}
-use mathlib.Core.List.{List}
-use Prim.Native.Nat.{ℕ}
 use borrow.Author.Needs.{needs}
 use Rattle.stretches.specs.Stretch.{Stretched}
 use Rattle.keystream.proofs.Calls.{wrong-key, wrong-salt, as-arrays}

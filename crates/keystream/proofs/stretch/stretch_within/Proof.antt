@@ -1,6 +1,5 @@
 -- `keystream::stretch::stretch_within` meets its contract: the stretch by the blocks of its key and its first counter block.
-use mathlib.Core.Path.{_≡_, ap, ap₂, _∙_}
-use mathlib.Core.Bool.{false}
+use mathlib.Core.Path.{ap, _∙_}
 use Prim.Native.Nat.{ℕ}
 use native.Mathlib.Omega.{arith}
 use borrow.Author.Needs.{needs}

@@ -1,5 +1,5 @@
 -- `packet_form::form::encrypt` meets its contract.
-use mathlib.Core.Path.{sym, ap, _∙_}
+use mathlib.Core.Path.{ap, _∙_}
 use native.Mathlib.Omega.{arith}
 use Rattle.rtp_elements.specs.Mask.{listedIn}
 use Rattle.packet_cipher.specs.Cipher.{cipherOf}
