@@ -5,8 +5,11 @@ BEGIN {
     title["own"] = "libsrtp, its own ciphers (a)"
     title["debian"] = "libsrtp, Debian's package (b)"
     title["openssl"] = "libsrtp with OpenSSL (c)"
+    # Measured with GCM alone, and so not in that row.
+    title["soft"] = "libsrtp with OpenSSL, without the processor's AES and carry-less multiply (d)"
     sizes = split("40 100 200 400 800 1200 1400", size, " ")
     policies = split("0 1 3", policy, " ")
+    gcms = split("gcm0 gcm1", gcm, " ")
     ways = split("protect unprotect", way, " ")
 }
 

@@ -1,5 +1,5 @@
-# bench/result.svg from the measured lines (with names.awk): microseconds for a packet over its length, both on scales of doubling, so that the same
-# ratio is the same distance everywhere.
+# bench/result.svg from the measured lines (with names.awk): microseconds for a packet of the first suite over its length, both on scales of doubling, so that
+# the same ratio is the same distance everywhere.
 
 function log2(x) {
     return log(x) / log(2)
@@ -72,7 +72,7 @@ END {
     print "<rect width=\"960\" height=\"640\" fill=\"white\"/>"
     gsub(/&/, "\\&amp;", processor)
     gsub(/</, "\\&lt;", processor)
-    text(60, 26, "start", "Microseconds for a packet over its bytes, both scales doubling. " date ", " processor)
+    text(60, 26, "start", "Microseconds for a packet over its bytes, AES_CM_128_HMAC_SHA1_80, both scales doubling. " date ", " processor)
     legend()
     for (p = 1; p <= policies; p++)
         for (w = 1; w <= ways; w++)

@@ -13,7 +13,7 @@ function told(call, a, w, k) {
     return a
 }
 function asked(w) {
-    if (w[1] == "make") return "make session " w[2] ", policy " w[5]
+    if (w[1] == "make") return "make session " w[2] ", policy " w[5] (w[7] == "gcm" ? ", with AES-GCM" : "")
     if (w[1] == "add") return "add stream " w[3] (w[4] == "s" ? " to send" : " to receive") " in session " w[2]
     if (w[1] == "protect") return "protect in session " w[2] ", " w[3] " bytes: " shown(w[4], w[3])
     if (w[1] == "unprotect") return "unprotect in session " w[2] ", " w[3] " bytes: " shown(w[4], w[3])

@@ -1,10 +1,13 @@
-/* Random packets protected by libsrtp, as a call script and the answers that the script has to get.
+/* Random packets through libsrtp and through the library, both ways; and the same as a call script, with the answers that the script has to get.
  *
  *     peer SEED COUNT SCRIPT ANSWERS
  *
- * Policy 0, and policy 3 where the extension's block is whole elements with all padding at the end: elsewhere libsrtp departs from RFC 6904.
- * Each list of calls has a sender and a receiver; what libsrtp sends must be what the library sends, and the library has to give back what was
- * handed to libsrtp. */
+ * The first suite under policy 0, and under policy 3 where the extension's block is whole elements with all padding at the end: elsewhere libsrtp departs from
+ * RFC 6904. GCM under policy 0, where libsrtp was built with it: else that is said, and no packet is counted as compared with GCM.
+ * Each list of calls has a sender and a receiver on each side. What libsrtp sends must be what the library sends; the library has to give back what was handed
+ * to libsrtp, and libsrtp what was handed to the library. */
+#include "delugash.h"
+
 #include <srtp2/srtp.h>
 #include <stdint.h>
 #include <stdio.h>
@@ -95,59 +98,118 @@ static unsigned put_packet(uint8_t *p, uint32_t ssrc, uint16_t seq)
     return at + payload;
 }
 
+/* What a list of calls is made of: its keys, policy, ids and suite. */
+struct setting {
+    uint32_t suite;
+    unsigned policy, salt, tag, count;
+    uint8_t key[30], ids[8];
+    int ints[8];
+};
+
 struct list {
-    srtp_t sender;
+    struct setting with;
+    srtp_t sender, receiver;
+    uint64_t own_sender[DELUGASH_WORDS], own_receiver[DELUGASH_WORDS];
     uint32_t ssrc;
     uint16_t seq;
 };
 
-/* A list of calls begins: a key, a policy and a set of ids of its own. */
-static void begin(struct list *l, FILE *script, FILE *answers, unsigned number)
+/* The library's answer has to be a result, and the bytes have to be these. */
+static void same(const struct list *l, const char *call, delugash_answer a, const uint8_t *got, const uint8_t *expected, unsigned n)
 {
-    uint8_t key[30], ids[8];
-    int ints[8];
-    unsigned policy = below(2) ? 3 : 0, count = policy == 3 ? 1 + below(8) : 0;
-    fill(key, sizeof key);
-    for (unsigned i = 0; i < count; i++)
-        ints[i] = ids[i] = (uint8_t)(1 + below(below(2) ? 14 : 255));
-    l->ssrc = (uint32_t)next();
-    l->seq = (uint16_t)next();
+    if (a.number == DELUGASH_OK && a.length == n && memcmp(got, expected, n) == 0)
+        return;
+    fprintf(stderr, "%s, suite %u, policy %u, SSRC %08x, sequence number %u: number %u, length %zu, and libsrtp has %u bytes", call, (unsigned)l->with.suite,
+            l->with.policy, (unsigned)l->ssrc, l->seq, (unsigned)a.number, a.length, n);
+    fputs("\nthe library: ", stderr);
+    hex(stderr, got, n);
+    fputs("\nlibsrtp:     ", stderr);
+    hex(stderr, expected, n);
+    fputc('\n', stderr);
+    exit(1);
+}
+
+static srtp_err_status_t open_peer(srtp_t *session, struct setting *with, uint32_t ssrc)
+{
     srtp_policy_t p;
     memset(&p, 0, sizeof p);
-    srtp_crypto_policy_set_rtp_default(&p.rtp);
-    srtp_crypto_policy_set_rtcp_default(&p.rtcp);
+    if (with->suite == DELUGASH_SUITE_GCM) {
+        srtp_crypto_policy_set_aes_gcm_128_16_auth(&p.rtp);
+        srtp_crypto_policy_set_aes_gcm_128_16_auth(&p.rtcp);
+    } else {
+        srtp_crypto_policy_set_rtp_default(&p.rtp);
+        srtp_crypto_policy_set_rtcp_default(&p.rtcp);
+    }
     p.ssrc.type = ssrc_specific;
-    p.ssrc.value = l->ssrc;
-    p.key = key;
+    p.ssrc.value = ssrc;
+    p.key = with->key;
     p.window_size = 128;
-    p.enc_xtn_hdr = count ? ints : NULL;
-    p.enc_xtn_hdr_count = (int)count;
-    must(srtp_create(&l->sender, &p), "a session");
+    p.enc_xtn_hdr = with->count ? with->ints : NULL;
+    p.enc_xtn_hdr_count = (int)with->count;
+    return srtp_create(session, &p);
+}
+
+static void open_own(uint64_t *session, const struct setting *with, uint32_t ssrc, uint32_t way)
+{
+    if (delugash_make(session, DELUGASH_WORDS, with->key, 16, with->key + 16, with->salt, with->policy, with->ids, with->count, with->suite) != DELUGASH_OK
+        || delugash_add(session, DELUGASH_WORDS, ssrc, way, 0) != DELUGASH_OK) {
+        fprintf(stderr, "the library refused a session or a stream, suite %u, policy %u\n", (unsigned)with->suite, with->policy);
+        exit(1);
+    }
+}
+
+static struct setting choose(int gcm)
+{
+    struct setting with = {gcm ? DELUGASH_SUITE_GCM : DELUGASH_SUITE_CM_HMAC, !gcm && below(2) ? 3 : 0, gcm ? 12 : 14, gcm ? 16 : 10, 0, {0}, {0}, {0}};
+    with.count = with.policy == 3 ? 1 + below(8) : 0;
+    fill(with.key, 16 + with.salt);
+    for (unsigned i = 0; i < with.count; i++)
+        with.ints[i] = with.ids[i] = (uint8_t)(1 + below(below(2) ? 14 : 255));
+    return with;
+}
+
+/* A list of calls begins: a key, a policy and a set of ids of its own. */
+static void begin(struct list *l, int gcm, FILE *script, FILE *answers, unsigned number)
+{
+    l->with = choose(gcm);
+    l->ssrc = (uint32_t)next();
+    l->seq = (uint16_t)next();
+    must(open_peer(&l->sender, &l->with, l->ssrc), "a session");
+    must(open_peer(&l->receiver, &l->with, l->ssrc), "a session");
+    open_own(l->own_sender, &l->with, l->ssrc, DELUGASH_SENDING);
+    open_own(l->own_receiver, &l->with, l->ssrc, DELUGASH_RECEIVING);
     fprintf(script, "case list %u\n", number);
     fprintf(answers, "case list %u\n", number);
     for (int s = 0; s < 2; s++) {
         fprintf(script, "make %d ", s);
-        hex(script, key, 16);
+        hex(script, l->with.key, 16);
         fputc(' ', script);
-        hex(script, key + 16, 14);
-        fprintf(script, " %u ", policy);
-        hex(script, ids, count);
-        fprintf(script, "\nadd %d %08x %c 0\n", s, (unsigned)l->ssrc, s ? 'r' : 's');
+        hex(script, l->with.key + 16, l->with.salt);
+        fprintf(script, " %u ", l->with.policy);
+        hex(script, l->with.ids, l->with.count);
+        fprintf(script, "%s\nadd %d %08x %c 0\n", gcm ? " gcm" : "", s, (unsigned)l->ssrc, s ? 'r' : 's');
         fputs("0\n0\n", answers);
     }
 }
 
-/* A packet, both ways. */
+/* A packet from each side to both. */
 static void packet(struct list *l, FILE *script, FILE *answers)
 {
-    uint8_t plain[4096] = {0}, wire[4096];
+    uint8_t plain[4096] = {0}, wire[4096], own[4096], back[4096];
     l->seq = (uint16_t)(l->seq + 1 + (below(6) ? 0 : below(20000)));
-    unsigned n = put_packet(plain, l->ssrc, l->seq);
+    unsigned n = put_packet(plain, l->ssrc, l->seq), tag = l->with.tag;
     memcpy(wire, plain, sizeof plain);
-    int m = (int)n;
+    int m = (int)n, k;
     must(srtp_protect(l->sender, wire, &m), "a packet");
+    memcpy(own, plain, sizeof own);
+    same(l, "protect", delugash_protect(l->own_sender, DELUGASH_WORDS, own, n + tag, n), own, wire, (unsigned)m);
+    memcpy(back, wire, sizeof back);
+    same(l, "unprotect", delugash_unprotect(l->own_receiver, DELUGASH_WORDS, back, (unsigned)m, (unsigned)m), back, plain, n);
+    k = m;
+    must(srtp_unprotect(l->receiver, own, &k), "what the library sent");
+    same(l, "libsrtp's unprotect", (delugash_answer){DELUGASH_OK, (size_t)k}, own, plain, n);
     fprintf(script, "protect 0 %u ", n);
-    hex(script, plain, n + 10);
+    hex(script, plain, n + tag);
     fprintf(script, "\nunprotect 1 %d ", m);
     hex(script, wire, (unsigned)m);
     fputc('\n', script);
@@ -155,8 +217,19 @@ static void packet(struct list *l, FILE *script, FILE *answers)
     hex(answers, wire, (unsigned)m);
     fprintf(answers, "\n0 %u ", n);
     hex(answers, plain, n);
-    hex(answers, wire + n, 10);
+    hex(answers, wire + n, tag);
     fputc('\n', answers);
+}
+
+/* libsrtp can be built without GCM: a session of it is refused then. */
+static int peer_has_gcm(void)
+{
+    struct setting with = {DELUGASH_SUITE_GCM, 0, 12, 16, 0, {0}, {0}, {0}};
+    srtp_t session;
+    if (open_peer(&session, &with, 1) != srtp_err_status_ok)
+        return 0;
+    srtp_dealloc(session);
+    return 1;
 }
 
 int main(int argc, char **argv)
@@ -173,12 +246,23 @@ int main(int argc, char **argv)
         return 1;
     }
     must(srtp_init(), "to start");
+    int has_gcm = peer_has_gcm();
+    unsigned long packets[2] = {0, 0};
     for (unsigned number = 0; count > 0; number++) {
-        struct list l;
-        begin(&l, script, answers, number);
-        for (unsigned k = 1 + below(40); k > 0 && count > 0; k--, count--)
+        static struct list l;
+        /* the suite that has had fewer packets, so that each gets half */
+        int gcm = has_gcm && packets[1] <= packets[0];
+        begin(&l, gcm, script, answers, number);
+        for (unsigned k = 1 + below(40); k > 0 && count > 0; k--, count--, packets[gcm]++)
             packet(&l, script, answers);
         srtp_dealloc(l.sender);
+        srtp_dealloc(l.receiver);
     }
+    printf("%lu packets with AES_CM_128_HMAC_SHA1_80, ", packets[0]);
+    if (has_gcm)
+        printf("%lu with AEAD_AES_128_GCM", packets[1]);
+    else
+        printf("NONE with AEAD_AES_128_GCM: this libsrtp was built without it");
+    printf("\n");
     return fclose(script) != 0 || fclose(answers) != 0;
 }

@@ -37,7 +37,7 @@ static int open_session(uint64_t *session, uint32_t way)
 {
     if (delugash_size() != DELUGASH_WORDS)
         return 0;
-    if (delugash_make(session, DELUGASH_WORDS, key, sizeof key, salt, sizeof salt, DELUGASH_CRYPTEX, NULL, 0) != DELUGASH_OK)
+    if (delugash_make(session, DELUGASH_WORDS, key, sizeof key, salt, sizeof salt, DELUGASH_CRYPTEX, NULL, 0, DELUGASH_SUITE_CM_HMAC) != DELUGASH_OK)
         return 0;
     return delugash_add(session, DELUGASH_WORDS, 0xcafebabe, way, 0) == DELUGASH_OK;
 }

@@ -5,20 +5,31 @@ use crate::lines;
 use crate::parts::{self, Part, Parts};
 use crate::refusal::Refusal::{self, *};
 use crate::script::Desk;
+use crate::suite::Suite;
+use crate::words;
 use std::collections::BTreeMap;
 use std::io::{self, BufRead, Write};
 
-/// The kinds of line in the table, with the refusals that documents 01 and 02 let each give.
-const KINDS: [(&str, &[Refusal]); 10] = [
+/// The kinds of line in the table, with the refusals that documents 01 and 02 let each give. A line on
+/// a session of the second suite is of a kind of its own; an unmade session is of the first, and
+/// ELEMENT needs policy 3, which the second has not.
+const KINDS: [(&str, &[Refusal]); 14] = [
     ("make", &[Keys, Policy]),
+    ("make gcm", &[Keys, Policy]),
     ("add", &[Keys, Twice, Full]),
+    ("add gcm", &[Twice, Full]),
     (
         "protect",
         &[Length, Short, Version, Header, Profile, Element, Large, Room, Stream, Order, Worn],
     ),
+    ("protect gcm", &[Length, Short, Version, Header, Profile, Large, Room, Stream, Order, Worn]),
     (
         "unprotect",
         &[Length, Short, Version, Header, Profile, Element, Large, Stream, Worn, Old, Repeat, Tag],
+    ),
+    (
+        "unprotect gcm",
+        &[Length, Short, Version, Header, Profile, Large, Stream, Worn, Old, Repeat, Tag],
     ),
     ("find", &[Short, Version, Header, Element, Absent]),
     ("guess", &[Worn, Old, Repeat]),
@@ -39,11 +50,10 @@ impl Tally {
     /// Counts one line and the desk's answer. Unreadable lines are a kind of their own; `case` is
     /// no call.
     pub fn note(&mut self, desk: &Desk, line: &[u8], answer: &[u8]) {
-        let kind = if answer == b"?" { b"?" } else { first_word(line) };
+        let kind = if answer == b"?" { "?".to_string() } else { kind_of(desk, line) };
         // For `state` the number is MADE, for `?` there is none and 0 stands in.
         let number = String::from_utf8_lossy(first_word(answer)).parse().unwrap_or(0);
-        let kind = String::from_utf8_lossy(kind).into_owned();
-        self.parts.note(desk, line, &kind, number);
+        self.parts.note(desk, line, answer, (&kind, number));
         if kind != "case" {
             *self.counts.entry((kind, number)).or_default() += 1;
         }
@@ -84,7 +94,7 @@ impl Tally {
     pub fn write(&self, output: &mut impl Write) -> io::Result<()> {
         for (kind, refusals) in KINDS {
             let total: u64 = self.answers_of(kind).map(|(_, count)| count).sum();
-            writeln!(output, "{kind:<10} {total:>9}")?;
+            writeln!(output, "{kind:<13} {total:>8}")?;
             for (number, count) in self.answers_of(kind) {
                 let name = answer_name(kind, number, refusals);
                 writeln!(output, "  {number:>2} {name:<10} {count:>6}")?;
@@ -102,6 +112,23 @@ impl Tally {
             writeln!(output, "     {:<16} {:>6}", part.2, self.part_count(part))?;
         }
         Ok(())
+    }
+}
+
+/// The kind of a line that can be read: its first word and, with a session of the second suite, `gcm`.
+fn kind_of(desk: &Desk, line: &[u8]) -> String {
+    let words = words::split(line).unwrap_or_default();
+    let suite = match words[..] {
+        [b"make", _, _, _, _, _, ref last @ ..] => words::suite(last),
+        [b"add" | b"protect" | b"unprotect", session, ..] => {
+            desk.session(session).map(|s| s.suite())
+        }
+        _ => None,
+    };
+    let kind = String::from_utf8_lossy(first_word(line));
+    match suite {
+        Some(Suite::Gcm) => format!("{kind} gcm"),
+        _ => kind.into_owned(),
     }
 }
 

@@ -4,10 +4,12 @@
 
 // From the bottom up: cipher and hash, then packets, then sessions, then the call script.
 pub mod aes;
+pub mod gcm;
 pub mod hmac;
 pub mod keystream;
 pub mod refusal;
 pub mod sha1;
+pub mod suite;
 
 pub mod elements;
 pub mod header;
@@ -22,6 +24,7 @@ pub mod lines;
 pub mod parts;
 pub mod script;
 pub mod stretch;
+pub mod suite_parts;
 pub mod words;
 
 pub mod random;

@@ -1,14 +1,11 @@
 //! The bytes of a protected packet and their undoing, after document 01, "What is encrypted"
-//! (RFC 3711 section 3.1, RFC 9335 sections 5 and 6, RFC 6904 section 3).
+//! (RFC 3711 section 3.1, RFC 9335 sections 5 and 6, RFC 6904 section 3) and, for what the second
+//! suite authenticates, RFC 7714 section 8.
 
 use crate::elements::{self, IdSet};
 use crate::header::{self, Extension, Header};
-use crate::hmac::hmac_sha1;
-use crate::keystream::SessionKeys;
 use crate::refusal::Refusal;
-
-/// Length of the authentication tag.
-pub const TAG: usize = 10;
+use crate::suite::{Keys, Name, Suite};
 
 #[derive(Clone, Copy, Debug, PartialEq, Eq)]
 pub enum Policy {
@@ -36,14 +33,25 @@ impl Policy {
     pub fn is_cryptex(self) -> bool {
         matches!(self, Policy::Cryptex | Policy::CryptexRequired)
     }
+
+    /// The mask is for the first suite only.
+    pub fn is_for(self, suite: Suite) -> bool {
+        self != Policy::Mask || suite == Suite::CounterMode
+    }
 }
 
 /// What the bytes of one packet depend on beside the packet itself.
 pub struct Context<'a> {
-    pub keys: &'a SessionKeys,
+    pub keys: &'a Keys,
     pub policy: Policy,
     pub ids: &'a IdSet,
     pub index: i128,
+}
+
+impl Context<'_> {
+    fn name(&self, header: &Header) -> Name {
+        Name { ssrc: header.ssrc, index: self.index.unsigned_abs() }
+    }
 }
 
 /// Cryptex marks a packet that has contributors and no extension with an added empty block.
@@ -52,69 +60,60 @@ fn needs_added_block(policy: Policy, header: &Header) -> bool {
 }
 
 /// The wire length of a packet of `n` bytes.
-pub fn protected_length(policy: Policy, header: &Header, n: usize) -> usize {
+pub fn protected_length(suite: Suite, policy: Policy, header: &Header, n: usize) -> usize {
     let added = if needs_added_block(policy, header) { header::EXTENSION_HEADER } else { 0 };
-    n + added + TAG
-}
-
-/// The tag: the first 10 bytes of the HMAC over the wire bytes before it and the rollover.
-pub fn tag(context: &Context, wire: &[u8]) -> Vec<u8> {
-    // The index is at most 2^48 - 1, so the rollover is 32 bits wide.
-    let rollover = (context.index / 65_536) as u32;
-    let mut text = wire.to_vec();
-    text.extend(rollover.to_be_bytes());
-    hmac_sha1(&context.keys.authentication_key, &text)[..TAG].to_vec()
+    n + added + suite.tag_length()
 }
 
 /// The wire bytes of a plain packet, the tag included. It refuses nothing that the call has not
-/// refused before; the same holds of `unprotect`.
+/// refused before.
 pub fn protect(context: &Context, packet: &[u8]) -> Result<Vec<u8>, Refusal> {
     let mut bytes = packet.to_vec();
-    let mut header = header::read(&bytes)?;
-    if needs_added_block(context.policy, &header) {
-        add_empty_block(&mut bytes, &header);
-        header = header::read(&bytes)?;
+    let plain = header::read(&bytes)?;
+    if needs_added_block(context.policy, &plain) {
+        add_empty_block(&mut bytes, &plain);
     }
-    match context.policy {
-        Policy::Plain => encrypt_payload(context, &header, &mut bytes)?,
-        Policy::Cryptex | Policy::CryptexRequired => match &header.extension {
-            None => encrypt_payload(context, &header, &mut bytes)?,
-            Some(extension) => {
-                encrypt_cryptex(context, &header, extension, &mut bytes)?;
-                put_tag(&mut bytes, extension, cryptex_tag(extension.tag));
-            }
-        },
-        Policy::Mask => {
-            encrypt_masked(context, &header, &mut bytes)?;
-            encrypt_payload(context, &header, &mut bytes)?;
+    if context.policy.is_cryptex() {
+        if let Some(extension) = header::read(&bytes)?.extension {
+            put_tag(&mut bytes, &extension, cryptex_tag(extension.tag));
         }
     }
-    // The tag is made last: it covers the bytes as they are sent.
-    let tag = tag(context, &bytes);
+    // From here on the clear bytes are those that are sent, and all of them are authenticated.
+    let header = header::read(&bytes)?;
+    encrypt_masked(context, &header, &mut bytes)?;
+    let places = encrypted_places(context.policy, &header, bytes.len());
+    let tag = context.keys.seal(context.name(&header), &mut bytes, &places)?;
     bytes.extend(tag);
     Ok(bytes)
 }
 
-/// The plain packet of wire bytes whose tag has been cut off and found right.
-pub fn unprotect(context: &Context, wire: &[u8]) -> Result<Vec<u8>, Refusal> {
+/// The plain packet of wire bytes and their tag, or TAG. It refuses nothing else that the call has
+/// not refused before.
+pub fn unprotect(context: &Context, wire: &[u8], tag: &[u8]) -> Result<Vec<u8>, Refusal> {
     let mut bytes = wire.to_vec();
     let header = header::read(&bytes)?;
-    match cryptex_extension(context.policy, &header) {
-        Some(extension) => {
-            encrypt_cryptex(context, &header, extension, &mut bytes)?;
-            put_tag(&mut bytes, extension, plain_tag(extension.tag));
-        }
-        None => {
-            if context.policy == Policy::Mask {
-                encrypt_masked(context, &header, &mut bytes)?;
-            }
-            encrypt_payload(context, &header, &mut bytes)?;
-        }
+    let places = encrypted_places(context.policy, &header, bytes.len());
+    context.keys.open(context.name(&header), &mut bytes, &places, tag)?;
+    encrypt_masked(context, &header, &mut bytes)?;
+    if let Some(extension) = cryptex_extension(context.policy, &header) {
+        put_tag(&mut bytes, extension, plain_tag(extension.tag));
     }
     Ok(bytes)
 }
 
-/// A received packet is undone as Cryptex by its tag, and only under policies 1 and 2.
+/// Where the encrypted bytes of a packet with this wire header stand, in the keystream's order: the
+/// payload; with Cryptex the contributors, the block and the payload in one run that jumps the four
+/// bytes of the extension header.
+fn encrypted_places(policy: Policy, header: &Header, length: usize) -> Vec<usize> {
+    match cryptex_extension(policy, header) {
+        Some(extension) => {
+            header.contributors.clone().chain(extension.block.start..length).collect()
+        }
+        None => (header.payload..length).collect(),
+    }
+}
+
+/// A packet on the wire is Cryptex's by its tag, and only under policies 1 and 2.
 fn cryptex_extension(policy: Policy, header: &Header) -> Option<&Extension> {
     let extension = header.extension.as_ref()?;
     if policy.is_cryptex() && is_cryptex_tag(extension.tag) {
@@ -160,49 +159,20 @@ fn add_empty_block(bytes: &mut Vec<u8>, header: &Header) {
     bytes.splice(place..place, [0xbe, 0xde, 0, 0]);
 }
 
-/// XORs the bytes at the given places, in their order, with one unbroken keystream. A packet has at
-/// most 2,048 bytes, so no stretch of its keystream is refused.
-fn encrypt_places(
-    context: &Context,
-    header: &Header,
-    bytes: &mut [u8],
-    places: &[usize],
-) -> Result<(), Refusal> {
-    let keystream = context.keys.packet_stream(header.ssrc, context.index.unsigned_abs());
-    for (place, key_byte) in places.iter().zip(keystream.stretch(0, places.len())?) {
-        bytes[*place] ^= key_byte;
-    }
-    Ok(())
-}
-
-fn encrypt_payload(context: &Context, header: &Header, bytes: &mut [u8]) -> Result<(), Refusal> {
-    let places: Vec<usize> = (header.payload..bytes.len()).collect();
-    encrypt_places(context, header, bytes, &places)
-}
-
-/// Contributors, block and payload; the four bytes of the extension header use up no keystream.
-fn encrypt_cryptex(
-    context: &Context,
-    header: &Header,
-    extension: &Extension,
-    bytes: &mut [u8],
-) -> Result<(), Refusal> {
-    let contributors = header.contributors.clone();
-    let rest = extension.block.start..bytes.len();
-    let places: Vec<usize> = contributors.chain(rest).collect();
-    encrypt_places(context, header, bytes, &places)
-}
-
-/// XORs block byte k with byte k of the header keystream where the mask is FF. Ids and lengths are
-/// never masked, so the mask is the same for plain and wire bytes.
+/// Under policy 3, XORs block byte k with byte k of the header keystream where the mask is FF. Ids
+/// and lengths are never masked, so the mask is the same for plain and wire bytes.
 fn encrypt_masked(context: &Context, header: &Header, bytes: &mut [u8]) -> Result<(), Refusal> {
-    let Some(extension) = &header.extension else {
+    let (Policy::Mask, Some(extension)) = (context.policy, &header.extension) else {
         return Ok(());
+    };
+    // No session of the second suite has this policy.
+    let Keys::CounterMode(keys) = context.keys else {
+        return Err(Refusal::Policy);
     };
     let block = &mut bytes[extension.block.clone()];
     let mask = elements::mask(extension.tag, block, context.ids)?;
-    let keystream = context.keys.header_stream(header.ssrc, context.index.unsigned_abs());
-    let stream = keystream.stretch(0, block.len())?;
+    let name = context.name(header);
+    let stream = keys.header_stream(name.ssrc, name.index).stretch(0, block.len())?;
     for k in 0..block.len() {
         block[k] ^= stream[k] & mask[k];
     }

@@ -1,6 +1,7 @@
 //! The parts of some answers that `reference count` tells apart. PROFILE on unprotect is one number
-//! for two conditions; under the mask, what protect does depends on how the elements lie against the
-//! keystream's blocks; and a stretch depends on where it lies in the keystream.
+//! for two conditions, under either suite; under the mask, what protect does depends on how the
+//! elements lie against the keystream's blocks; and a stretch depends on where it lies in the
+//! keystream. `suite_parts` has those of change request 3.
 
 use crate::aes::BLOCK;
 use crate::elements;
@@ -11,6 +12,8 @@ use crate::refusal::Refusal::{Large, Profile};
 use crate::script::Desk;
 use crate::session::Session;
 use crate::stretch::Stretch;
+use crate::suite::Suite;
+use crate::suite_parts::{Before, SUITES};
 use crate::words;
 use std::collections::BTreeMap;
 use std::ops::Range;
@@ -22,6 +25,12 @@ pub type Part = (&'static str, u64, &'static str);
 pub const CONTRIBUTORS_IN_CLEAR: Part = ("unprotect", Profile as u64, "X = 0, CC > 0");
 const EXTENSION_IN_CLEAR: Part = ("unprotect", Profile as u64, "X = 1");
 const NOTHING_TO_HIDE: Part = ("unprotect", 0, "policy 2, X = 0");
+const REQUIRED: [Part; 3] = [NOTHING_TO_HIDE, CONTRIBUTORS_IN_CLEAR, EXTENSION_IN_CLEAR];
+const REQUIRED_GCM: [Part; 3] = [
+    ("unprotect gcm", 0, NOTHING_TO_HIDE.2),
+    ("unprotect gcm", Profile as u64, CONTRIBUTORS_IN_CLEAR.2),
+    ("unprotect gcm", Profile as u64, EXTENSION_IN_CLEAR.2),
+];
 
 /// Packets sent under policy 3: a listed element's data goes on past a multiple of 16, or begins
 /// more than 16 bytes behind the last listed data or the block's begin; a block over 64 bytes.
@@ -51,8 +60,8 @@ pub const STRETCHES: [Part; 6] = [
 
 /// In the order of the table.
 pub fn all() -> impl Iterator<Item = Part> {
-    let unprotect = [NOTHING_TO_HIDE, CONTRIBUTORS_IN_CLEAR, EXTENSION_IN_CLEAR];
-    MASKS.into_iter().chain(unprotect).chain(STRETCHES)
+    let required = REQUIRED.into_iter().chain(REQUIRED_GCM);
+    MASKS.into_iter().chain(required).chain(STRETCHES).chain(SUITES)
 }
 
 /// How often each part came.
@@ -61,6 +70,7 @@ pub struct Parts {
     counts: BTreeMap<Part, u64>,
     /// The last line of its kind, if it was taken.
     last_stretch: Option<Stretch>,
+    before: Before,
 }
 
 impl Parts {
@@ -69,47 +79,62 @@ impl Parts {
     }
 
     /// Counts a line of this kind that was answered with this number.
-    pub fn note(&mut self, desk: &Desk, line: &[u8], kind: &str, number: u64) {
-        for part in self.parts(desk, line, kind, number).unwrap_or_default() {
+    pub fn note(&mut self, desk: &Desk, line: &[u8], answer: &[u8], (kind, number): (&str, u64)) {
+        let Some(words) = words::split(line) else {
+            return;
+        };
+        let words = &words[1..];
+        let mut parts = self.parts(desk, words, kind, number).unwrap_or_default();
+        parts.extend(self.before.parts(desk, (kind, number), words, answer).unwrap_or_default());
+        for part in parts.into_iter().filter(|part| part.0 == kind && part.1 == number) {
             *self.counts.entry(part).or_default() += 1;
         }
     }
 
-    /// The parts a readable line belongs to, with its bytes as they were handed over.
-    fn parts(&mut self, desk: &Desk, line: &[u8], kind: &str, number: u64) -> Option<Vec<Part>> {
-        let words = words::split(line)?;
-        let mut parts = match (kind, &words[1..]) {
+    /// The parts a readable line belongs to, with its bytes as they were handed over. The caller
+    /// looks at how it was answered.
+    fn parts(
+        &mut self,
+        desk: &Desk,
+        words: &[&[u8]],
+        kind: &str,
+        number: u64,
+    ) -> Option<Vec<Part>> {
+        match (kind, words) {
             ("protect", [session, n, buffer]) => {
                 let (session, n) = (desk.session(session)?, words::number(n)?);
-                mask_parts(session, words::buffer(buffer)?.get(..usize::try_from(n).ok()?)?)?
+                mask_parts(session, words::buffer(buffer)?.get(..usize::try_from(n).ok()?)?)
             }
-            ("unprotect", [session, _, buffer]) => {
-                required_parts(desk.session(session)?, *words::buffer(buffer)?.first()?)
+            ("unprotect" | "unprotect gcm", [session, _, buffer]) => {
+                required_part(desk.session(session)?, *words::buffer(buffer)?.first()?)
+                    .map(|part| vec![part])
             }
             ("stretch", words) => {
                 let stretch = Stretch::read(words)?;
                 let parts = stretch_parts(self.last_stretch.as_ref(), &stretch);
                 self.last_stretch = (number == 0).then_some(stretch);
-                parts
+                Some(parts)
             }
-            _ => return None,
-        };
-        parts.retain(|part| part.1 == number);
-        Some(parts)
+            _ => None,
+        }
     }
 }
 
 /// What policy 2 has to look at, by the first byte of a packet as it arrived.
-fn required_parts(session: &Session, first: u8) -> Vec<Part> {
+fn required_part(session: &Session, first: u8) -> Option<Part> {
     if session.policy() != packet::Policy::CryptexRequired {
-        return Vec::new();
+        return None;
     }
+    let [nothing, contributors, extension] = match session.suite() {
+        Suite::CounterMode => REQUIRED,
+        Suite::Gcm => REQUIRED_GCM,
+    };
     let (has_extension, has_contributors) = (first & X_BIT != 0, first & 0x0f != 0);
-    vec![match (has_extension, has_contributors) {
-        (true, _) => EXTENSION_IN_CLEAR,
-        (false, true) => CONTRIBUTORS_IN_CLEAR,
-        (false, false) => NOTHING_TO_HIDE,
-    }]
+    Some(match (has_extension, has_contributors) {
+        (true, _) => extension,
+        (false, true) => contributors,
+        (false, false) => nothing,
+    })
 }
 
 /// How the mask lies over a packet that was sent. Empty elements have nothing to mask.

@@ -55,9 +55,7 @@ impl Desk {
                 *self = Desk::default();
                 return Some(line.to_vec());
             }
-            (b"make", [session, key, salt, policy, ids]) => {
-                self.make(session, key, salt, policy, ids)?
-            }
+            (b"make", words) => self.make(words)?,
             (b"add", [session, ssrc, way, rollover]) => self.add(session, ssrc, way, rollover)?,
             (b"protect", [session, n, buffer]) => self.protect(session, n, buffer)?,
             (b"unprotect", [session, n, buffer]) => self.unprotect(session, n, buffer)?,
@@ -71,18 +69,14 @@ impl Desk {
         Some(answer.into_bytes())
     }
 
-    fn make(
-        &mut self,
-        session: &[u8],
-        key: &[u8],
-        salt: &[u8],
-        policy: &[u8],
-        ids: &[u8],
-    ) -> Option<String> {
-        let session = words::session(session)?;
+    fn make(&mut self, words: &[&[u8]]) -> Option<String> {
+        let [session, key, salt, policy, ids, suite @ ..] = words else {
+            return None;
+        };
+        let (session, suite) = (words::session(session)?, words::suite(suite)?);
         let (key, salt) = (words::key(key)?, words::key(salt)?);
         let (policy, ids) = (words::number(policy)?, words::key(ids)?);
-        let result = Session::make(&key, &salt, policy, &ids);
+        let result = Session::make(suite, &key, &salt, policy, &ids);
         let answer = number(&result).to_string();
         // A refused making gives a session too, the unmade one, and it takes this place.
         self.sessions[session] = result.unwrap_or(Session::unmade());

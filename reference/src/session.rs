@@ -4,9 +4,9 @@
 use crate::elements::{self, IdSet};
 use crate::header::{self, Header};
 use crate::index::{self, Ledger};
-use crate::keystream::SessionKeys;
-use crate::packet::{self, Context, Policy, TAG};
+use crate::packet::{self, Context, Policy};
 use crate::refusal::{refuse_if, Refusal};
+use crate::suite::{Keys, Suite};
 
 pub const MOST_RECORDS: usize = 32;
 /// The longest protected packet.
@@ -29,7 +29,7 @@ pub struct Record {
 #[derive(Clone)]
 pub struct Session {
     /// None for the unmade session.
-    keys: Option<SessionKeys>,
+    keys: Option<Keys>,
     policy: Policy,
     ids: IdSet,
     records: Vec<Record>,
@@ -41,20 +41,27 @@ impl Session {
         Session { keys: None, policy: Policy::Plain, ids: IdSet::new(), records: Vec::new() }
     }
 
-    pub fn make(key: &[u8], salt: &[u8], policy: u64, ids: &[u8]) -> Result<Session, Refusal> {
-        let key = key.try_into().map_err(|_| Refusal::Keys)?;
-        let salt = salt.try_into().map_err(|_| Refusal::Keys)?;
-        let policy = Policy::from_number(policy).ok_or(Refusal::Policy)?;
-        Ok(Session {
-            keys: Some(SessionKeys::derive(key, salt)),
-            policy,
-            ids: elements::id_set(ids),
-            records: Vec::new(),
-        })
+    pub fn make(
+        suite: Suite,
+        key: &[u8],
+        salt: &[u8],
+        policy: u64,
+        ids: &[u8],
+    ) -> Result<Session, Refusal> {
+        let keys = Keys::derive(suite, key, salt)?;
+        let policy = Policy::from_number(policy).filter(|policy| policy.is_for(suite));
+        let policy = policy.ok_or(Refusal::Policy)?;
+        let ids = elements::id_set(ids);
+        Ok(Session { keys: Some(keys), policy, ids, records: Vec::new() })
     }
 
     pub fn is_made(&self) -> bool {
         self.keys.is_some()
+    }
+
+    /// The unmade session counts as one of the first suite.
+    pub fn suite(&self) -> Suite {
+        self.keys.as_ref().map_or(Suite::CounterMode, Keys::suite)
     }
 
     pub fn policy(&self) -> Policy {
@@ -84,7 +91,8 @@ impl Session {
         let header = header::read(packet)?;
         refuse_if(self.is_wrong_profile_to_send(&header), Refusal::Profile)?;
         self.check_elements(&header, packet)?;
-        let wire_length = packet::protected_length(self.policy, &header, packet.len());
+        let wire_length =
+            packet::protected_length(self.suite(), self.policy, &header, packet.len());
         refuse_if(wire_length > LARGEST, Refusal::Large)?;
         refuse_if(wire_length > buffer.len(), Refusal::Room)?;
         let place = self.place_of(header.ssrc, Way::Sending)?;
@@ -96,19 +104,18 @@ impl Session {
         Ok(wire.len())
     }
 
-    /// Undoes protection of the first `n` bytes of the buffer in place and gives `n` - 10.
+    /// Undoes protection of the first `n` bytes of the buffer in place and gives `n` without the tag.
     pub fn unprotect(&mut self, buffer: &mut [u8], n: u64) -> Result<usize, Refusal> {
-        let packet = told_packet(buffer, n, header::FIXED + TAG)?;
-        let (wire, tag) = packet.split_at(packet.len() - TAG);
+        let tag_length = self.suite().tag_length();
+        let packet = told_packet(buffer, n, header::FIXED + tag_length)?;
+        let (wire, tag) = packet.split_at(packet.len() - tag_length);
         let header = header::read(wire)?;
         refuse_if(self.is_wrong_profile_to_receive(&header), Refusal::Profile)?;
         self.check_elements(&header, wire)?;
         refuse_if(packet.len() > LARGEST, Refusal::Large)?;
         let place = self.place_of(header.ssrc, Way::Receiving)?;
         let index = received_index(&self.records[place], header.sequence)?;
-        let context = self.context(index)?;
-        refuse_if(packet::tag(&context, wire) != tag, Refusal::Tag)?;
-        let plain = packet::unprotect(&context, wire)?;
+        let plain = packet::unprotect(&self.context(index)?, wire, tag)?;
         // Nothing is refused from here on.
         buffer[..plain.len()].copy_from_slice(&plain);
         self.records[place].ledger.take(index);

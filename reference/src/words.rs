@@ -3,6 +3,7 @@
 
 use crate::hex;
 use crate::session::Way;
+use crate::suite::Suite;
 
 /// Limits on byte strings, in bytes.
 const LONGEST_BUFFER: usize = 4_096;
@@ -67,6 +68,15 @@ pub fn way(word: &[u8]) -> Option<Way> {
     match word {
         b"s" => Some(Way::Sending),
         b"r" => Some(Way::Receiving),
+        _ => None,
+    }
+}
+
+/// What may follow IDS on a line `make`: nothing, or one word for the second suite.
+pub fn suite(words: &[&[u8]]) -> Option<Suite> {
+    match words {
+        [] => Some(Suite::CounterMode),
+        [b"gcm"] => Some(Suite::Gcm),
         _ => None,
     }
 }

@@ -6,14 +6,16 @@ use reference::random::dice::Dice;
 use reference::refusal::Refusal;
 use reference::script::Desk;
 use reference::session::{Session, Way};
+use reference::suite::Suite;
 use std::collections::BTreeSet;
 
 const KEY: [u8; 16] = [0x11; 16];
 const SALT: [u8; 14] = [0x22; 14];
 const SSRC: u32 = 0xcafe_babe;
 
-fn session(policy: u64, way: Way, rollover: u32) -> Session {
-    let mut session = Session::make(&KEY, &SALT, policy, &[2, 3, 14, 255]).unwrap();
+fn session(suite: Suite, policy: u64, way: Way, rollover: u32) -> Session {
+    let salt = &SALT[..suite.salt_length()];
+    let mut session = Session::make(suite, &KEY, salt, policy, &[2, 3, 14, 255]).unwrap();
     session.add(SSRC, way, rollover).unwrap();
     session
 }
@@ -28,18 +30,37 @@ fn answer(line: &str) -> String {
     answers(&[line]).remove(0)
 }
 
+fn made(suite: Suite, key: usize, salt: usize, policy: u64) -> Result<(), Refusal> {
+    Session::make(suite, &vec![0; key], &vec![0; salt], policy, &[]).map(|_| ())
+}
+
 #[test]
 fn making() {
-    let made = |key: usize, salt: usize, policy: u64| {
-        Session::make(&vec![0; key], &vec![0; salt], policy, &[]).map(|_| ())
-    };
+    let made = |key, salt, policy| made(Suite::CounterMode, key, salt, policy);
     assert_eq!(made(16, 14, 3), Ok(()));
-    for (key, salt) in [(15, 14), (17, 14), (16, 13), (16, 15), (0, 0)] {
+    for (key, salt) in [(15, 14), (17, 14), (16, 13), (16, 15), (16, 12), (0, 0)] {
         assert_eq!(made(key, salt, 0), Err(Refusal::Keys));
         assert_eq!(made(key, salt, 4), Err(Refusal::Keys));
     }
     assert_eq!(made(16, 14, 4), Err(Refusal::Policy));
     assert_eq!(made(16, 14, u64::MAX), Err(Refusal::Policy));
+}
+
+/// The second suite: 12 bytes of salt, policies 0 to 2, and KEYS before POLICY.
+#[test]
+fn making_with_gcm() {
+    let made = |key, salt, policy| made(Suite::Gcm, key, salt, policy);
+    for policy in 0..3 {
+        assert_eq!(made(16, 12, policy), Ok(()));
+    }
+    for policy in [3, 4, 256, u64::MAX] {
+        assert_eq!(made(16, 12, policy), Err(Refusal::Policy));
+    }
+    for (key, salt) in [(16, 14), (16, 13), (16, 11), (16, 0), (15, 12), (17, 12), (0, 12)] {
+        for policy in [0, 2, 3, 4] {
+            assert_eq!(made(key, salt, policy), Err(Refusal::Keys));
+        }
+    }
 }
 
 /// Its policy is 0, whatever was asked for; it takes no stream; packet calls end at STREAM.
@@ -56,7 +77,7 @@ fn unmade_session() {
 
 #[test]
 fn adding() {
-    let mut session = Session::make(&KEY, &SALT, 0, &[]).unwrap();
+    let mut session = Session::make(Suite::CounterMode, &KEY, &SALT, 0, &[]).unwrap();
     for ssrc in 0..32 {
         let way = if ssrc % 2 == 0 { Way::Sending } else { Way::Receiving };
         assert_eq!(session.add(ssrc, way, u32::MAX), Ok(()));
@@ -103,7 +124,7 @@ fn finding() {
 /// faults one by one.
 #[test]
 fn order_of_refusals_on_protect() {
-    let mut sender = Session::make(&KEY, &SALT, 1, &[]).unwrap();
+    let mut sender = Session::make(Suite::CounterMode, &KEY, &SALT, 1, &[]).unwrap();
     let mut buffer = vec![0; 3_000];
     buffer[0] = 0x1f;
     assert_eq!(sender.protect(&mut buffer, u64::MAX), Err(Refusal::Length));
@@ -133,35 +154,48 @@ fn restored(draft: &craft::Draft, policy: u64) -> Vec<u8> {
     draft.bytes()
 }
 
-/// Every policy: random packets, sent in order, come back; no byte behind them changes.
+/// Every policy of both suites, with the tag's length.
+const ALL: [(Suite, u64, usize); 7] = [
+    (Suite::CounterMode, 0, 10),
+    (Suite::CounterMode, 1, 10),
+    (Suite::CounterMode, 2, 10),
+    (Suite::CounterMode, 3, 10),
+    (Suite::Gcm, 0, 16),
+    (Suite::Gcm, 1, 16),
+    (Suite::Gcm, 2, 16),
+];
+
+/// Random packets, sent in order, come back; no byte behind them changes.
 #[test]
 fn round_trips() {
     let mut dice = Dice::new(5);
-    for policy in 0..4 {
+    for (suite, policy, t) in ALL {
         let (mut sender, mut receiver) =
-            (session(policy, Way::Sending, 1), session(policy, Way::Receiving, 1));
+            (session(suite, policy, Way::Sending, 1), session(suite, policy, Way::Receiving, 1));
         for sequence in 60_000..60_200 {
             let draft = craft::good(&mut dice, SSRC, sequence, policy);
-            let (plain, m) = (draft.bytes(), draft.protected_length(policy));
+            let (plain, back) = (draft.bytes(), restored(&draft, policy));
+            let m = back.len() + t;
             let mut buffer = plain.clone();
             buffer.resize(m + 5, 0xa5);
             assert_eq!(sender.protect(&mut buffer, plain.len() as u64), Ok(m));
             assert_eq!(buffer[m..], [0xa5; 5]);
             let wire = buffer.clone();
-            assert_eq!(receiver.unprotect(&mut buffer, m as u64), Ok(m - 10));
-            assert_eq!(buffer[..m - 10], restored(&draft, policy));
-            assert_eq!(buffer[m - 10..], wire[m - 10..]);
+            assert_eq!(receiver.unprotect(&mut buffer, m as u64), Ok(m - t));
+            assert_eq!(buffer[..m - t], back);
+            assert_eq!(buffer[m - t..], wire[m - t..]);
         }
     }
 }
 
-fn packet(sequence: u16) -> Vec<u8> {
+/// 15 bytes, and room for a tag of `t`.
+fn packet(sequence: u16, t: usize) -> Vec<u8> {
     let mut bytes = vec![0x80, 0];
     bytes.extend(sequence.to_be_bytes());
     bytes.extend([0; 4]);
     bytes.extend(SSRC.to_be_bytes());
     bytes.extend([0x77; 3]);
-    bytes.extend([0; 10]);
+    bytes.resize(15 + t, 0);
     bytes
 }
 
@@ -170,14 +204,21 @@ fn packet(sequence: u16) -> Vec<u8> {
 #[test]
 fn arrivals_are_judged_as_the_ledger_says() {
     let mut dice = Dice::new(6);
-    for rollover in [0, 1, u32::MAX - 1] {
-        let mut sender = session(0, Way::Sending, rollover);
-        let mut receiver = session(0, Way::Receiving, rollover);
+    let [counter_mode, .., gcm] = ALL;
+    for ((suite, policy, t), rollover) in [
+        (counter_mode, 0),
+        (counter_mode, 1),
+        (counter_mode, u32::MAX - 1),
+        (gcm, 0),
+        (gcm, 1 << 31),
+    ] {
+        let mut sender = session(suite, policy, Way::Sending, rollover);
+        let mut receiver = session(suite, policy, Way::Receiving, rollover);
         let mut sent: Vec<(i128, Vec<u8>)> = Vec::new();
         let mut sequence: u16 = 65_000;
         let mut index = i128::from(rollover) * 65_536 + 65_000;
         for _ in 0..1_500 {
-            let mut wire = packet(sequence);
+            let mut wire = packet(sequence, t);
             sender.protect(&mut wire, 15).unwrap();
             sent.push((index, wire));
             let step = if dice.one_in(50) { dice.between(1, 500) } else { 1 };
@@ -193,7 +234,7 @@ fn arrivals_are_judged_as_the_ledger_says() {
                 _ if held.contains(index) => Err(Refusal::Repeat),
                 _ => Ok(15),
             };
-            assert_eq!(receiver.unprotect(&mut wire.clone(), 25), expected);
+            assert_eq!(receiver.unprotect(&mut wire.clone(), 15 + t as u64), expected);
             if expected.is_ok() {
                 held.insert(*index);
             }
@@ -205,16 +246,19 @@ fn arrivals_are_judged_as_the_ledger_says() {
 /// Damage to any one bit before the tag's end is refused, and then the packet is still taken.
 #[test]
 fn damage_leaves_everything_as_it_was() {
-    let mut sender = session(0, Way::Sending, 0);
-    let mut receiver = session(0, Way::Receiving, 0);
-    let mut wire = packet(9);
-    sender.protect(&mut wire, 15).unwrap();
-    for bit in 0..8 * wire.len() {
-        let mut copy = wire.clone();
-        copy[bit / 8] ^= 1 << (bit % 8);
-        let before = copy.clone();
-        assert!(receiver.unprotect(&mut copy, 25).is_err(), "bit {bit}");
-        assert_eq!(copy, before);
+    for (suite, policy, t) in ALL {
+        let mut sender = session(suite, policy, Way::Sending, 0);
+        let mut receiver = session(suite, policy, Way::Receiving, 0);
+        let mut wire = packet(9, t);
+        let n = wire.len() as u64;
+        sender.protect(&mut wire, 15).unwrap();
+        for bit in 0..8 * wire.len() {
+            let mut copy = wire.clone();
+            copy[bit / 8] ^= 1 << (bit % 8);
+            let before = copy.clone();
+            assert!(receiver.unprotect(&mut copy, n).is_err(), "bit {bit}");
+            assert_eq!(copy, before);
+        }
+        assert_eq!(receiver.unprotect(&mut wire, n), Ok(15));
     }
-    assert_eq!(receiver.unprotect(&mut wire, 25), Ok(15));
 }

@@ -8,6 +8,7 @@ use reference::random::dice::Dice;
 use reference::random::layout;
 use reference::refusal::Refusal;
 use reference::session::{Session, Way};
+use reference::suite::Suite;
 use std::collections::BTreeSet;
 
 const ONE_BYTE: u16 = 0xbede;
@@ -145,7 +146,8 @@ fn blocks_have_every_shape() {
 }
 
 fn session(list: &[u8], way: Way) -> Session {
-    let mut session = Session::make(&bytes(MASTER[0]), &bytes(MASTER[1]), 3, list).unwrap();
+    let mut session =
+        Session::make(Suite::CounterMode, &bytes(MASTER[0]), &bytes(MASTER[1]), 3, list).unwrap();
     session.add(SSRC, way, 0).unwrap();
     session
 }

@@ -6,6 +6,7 @@ use reference::random;
 use reference::random::dice::Dice;
 use reference::random::spoil::spoiled;
 use reference::script::{self, Desk};
+use reference::suite_parts::SUITES;
 
 fn random_script(seed: u64, count: u64) -> Vec<u8> {
     let mut output = Vec::new();
@@ -61,9 +62,16 @@ fn damaged_scripts() {
 fn spoiled_lines_are_unreadable() {
     let mut dice = Dice::new(3);
     let stretch = format!("stretch {} {} 00000000 0 0 ab", "00".repeat(16), "00".repeat(14));
-    let lines =
-        ["state 0", "protect 0 12 800000", "make 0 - - 0 -", "mask bede - -", "find 1 -", &stretch];
-    for _ in 0..4_000 {
+    let lines = [
+        "state 0",
+        "protect 0 12 800000",
+        "make 0 - - 0 -",
+        "make 0 - - 0 - gcm",
+        "mask bede - -",
+        "find 1 -",
+        &stretch,
+    ];
+    for _ in 0..5_000 {
         let line = dice.pick(&lines);
         let spoiled = spoiled(&mut dice, line);
         let answer = Desk::default().answer(&spoiled);
@@ -99,6 +107,10 @@ fn random_scripts_of_20_000_calls_meet_every_refusal() {
         // stretches at the keystream's end and inside its blocks.
         for part in MASKS.into_iter().chain(STRETCHES) {
             assert!(tally.part_count(part) >= 50, "{part:?} {}", tally.part_count(part));
+        }
+        // Change request 3 has many parts; each comes more than by chance.
+        for part in SUITES {
+            assert!(tally.part_count(part) >= 5, "{part:?} {}", tally.part_count(part));
         }
     }
 }

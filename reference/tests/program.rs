@@ -49,6 +49,12 @@ fn counts_what_is_absent() {
     assert!(!table.contains("absent: guess 13 REPEAT\n"));
     for part in ["0 policy 2, X = 0", "5 X = 0, CC > 0", "5 X = 1"] {
         assert!(table.contains(&format!("absent: unprotect {part}\n")));
+        assert!(table.contains(&format!("absent: unprotect gcm {part}\n")));
+    }
+    // What the second suite cannot give is not missed.
+    assert!(table.contains("absent: protect gcm 4 HEADER\n"));
+    for impossible in ["add gcm 15", "protect gcm 6", "unprotect gcm 6", "unprotect gcm 8"] {
+        assert!(!table.contains(&format!("absent: {impossible}")));
     }
     for part in ["mask crosses 16", "mask skips > 16", "mask block > 64"] {
         assert!(table.contains(&format!("absent: protect 0 {part}\n")));
@@ -77,7 +83,27 @@ fn counts_an_absent_part() {
     assert_eq!(output.status.code(), Some(1));
     let table = String::from_utf8(output.stdout).unwrap();
     let absent: Vec<&str> = table.lines().filter(|line| line.starts_with("absent")).collect();
-    assert_eq!(absent, ["absent: unprotect 5 X = 0, CC > 0"]);
+    assert_eq!(
+        absent,
+        ["absent: unprotect 5 X = 0, CC > 0", "absent: unprotect gcm 5 X = 0, CC > 0"]
+    );
+}
+
+/// A script without the second suite lacks all that it can give, and nothing else.
+#[test]
+fn counts_an_absent_suite() {
+    let script = reference(&["random", "1", "20000"], b"").stdout;
+    let script = String::from_utf8_lossy(&script);
+    let lines: Vec<&str> = script.split('\n').filter(|line| !line.ends_with(" gcm")).collect();
+    let table = reference(&["count"], lines.join("\n").as_bytes());
+    assert_eq!(table.status.code(), Some(1));
+    let table = String::from_utf8(table.stdout).unwrap();
+    let absent: Vec<&str> = table.lines().filter(|line| line.starts_with("absent")).collect();
+    // 2, 2, 10 and 11 refusals; 37 parts of them, and 3 of policy 2.
+    let of_gcm = absent.iter().filter(|line| line.contains(" gcm ")).count();
+    assert_eq!(of_gcm, 2 + 2 + 10 + 11 + 37 + 3, "{absent:?}");
+    let rest: Vec<&&str> = absent.iter().filter(|line| !line.contains(" gcm ")).collect();
+    assert_eq!(rest, [&"absent: make 0 was gcm", &"absent: unprotect 14 other suite's"]);
 }
 
 /// Policies 1 and 2 take a packet with nothing to hide (RFC 9335's keys and stream), and policy 2
@@ -96,13 +122,13 @@ fn counts_the_parts_of_unprotect() {
     }
     let table = String::from_utf8(reference(&["count"], script.as_bytes()).stdout).unwrap();
     let expected = [
-        "unprotect          5",
+        "unprotect            5",
         "   0 result          2",
         "     policy 2, X = 0       1",
         "   5 PROFILE         3",
         "     X = 0, CC > 0         2",
         "     X = 1                 1",
-        "find               0",
+        "unprotect gcm        0",
     ];
     assert!(table.contains(&expected.join("\n")), "{table}");
 }
@@ -145,7 +171,7 @@ fn counts_the_parts_of_protect() {
     }
     let table = String::from_utf8(reference(&["count"], script.as_bytes()).stdout).unwrap();
     let expected = [
-        "protect           40",
+        "protect             40",
         "   0 result         20",
         "     mask crosses 16       1",
         "     mask skips > 16       2",
@@ -153,6 +179,92 @@ fn counts_the_parts_of_protect() {
         "  10 ORDER          20",
     ];
     assert!(table.contains(&expected.join("\n")), "{table}");
+}
+
+/// Makings of both suites, each condition of change request 3 once and its other side.
+#[test]
+fn counts_the_parts_of_make() {
+    let (key, salt) = ("00".repeat(16), "00".repeat(14));
+    let make = |session: u64, salt_length: usize, last: &str| {
+        format!("make {session} {key} {} {last}\n", &salt[..2 * salt_length])
+    };
+    let script = [
+        make(0, 14, "0 -"),
+        make(0, 12, "2 - gcm"),
+        make(0, 12, "1 - gcm"),
+        make(0, 14, "3 -"),
+        make(0, 12, "0 -"),
+        // Behind a refused making there is no suite that was.
+        make(0, 12, "0 - gcm"),
+        make(0, 13, "0 -"),
+        make(0, 14, "0 - gcm"),
+        make(0, 13, "3 - gcm"),
+        make(0, 12, "3 - gcm"),
+        make(0, 12, "4 - gcm"),
+        make(0, 12, "2 - gc"),
+    ];
+    let table =
+        String::from_utf8(reference(&["count"], script.concat().as_bytes()).stdout).unwrap();
+    let expected = [
+        "make                 4",
+        "   0 result          2",
+        "     was gcm               1",
+        "  15 KEYS            2",
+        "     salt 12               1",
+        "make gcm             7",
+        "   0 result          3",
+        "     policy 2              1",
+        "     was not gcm           1",
+        "  15 KEYS            2",
+        "     salt 14               1",
+        "     policy 3              1",
+        "  16 POLICY          2",
+        "     policy 3              1",
+        "     policy > 3            1",
+        "add                  0",
+    ];
+    assert!(table.contains(&expected.join("\n")), "{table}");
+}
+
+/// A packet like RFC 9335 A.2.3's, which has all parts, arrives with each part changed and is then
+/// taken.
+#[test]
+fn counts_what_was_changed() {
+    let keys = "000102030405060708090a0b0c0d0e0f a0a1a2a3a4a5a6a7a8a9aaab 1 - gcm";
+    let plain = "920f1238decafbadcafebabe0001e2400000b26ebede000151000200ab";
+    let mut script =
+        format!("make 0 {keys}\nadd 0 cafebabe s 0\nmake 1 {keys}\nadd 1 cafebabe r 0\n");
+    script += &format!("protect 0 29 {plain}{}\n", "00".repeat(16));
+    let answer = String::from_utf8(reference(&[], script.as_bytes()).stdout).unwrap();
+    let wire = answer.lines().last().unwrap().rsplit(' ').next().unwrap().to_string();
+    assert_eq!(wire.len(), 2 * 45);
+    // Digits: one of each part, one inside the tag, two at once, and none at all.
+    let changes: [&[usize]; 10] =
+        [&[2], &[24], &[40], &[48], &[56], &[58], &[88], &[70], &[2, 60], &[]];
+    for digits in changes {
+        let mut copy = wire.clone().into_bytes();
+        for place in digits {
+            copy[*place] = if copy[*place] == b'a' { b'b' } else { b'a' };
+        }
+        let copy = String::from_utf8(copy).unwrap();
+        script += &format!("unprotect 1 45 {copy}\n");
+    }
+    let table = String::from_utf8(reference(&["count"], script.as_bytes()).stdout).unwrap();
+    for line in [
+        "  14 TAG             9",
+        "     fixed header          1",
+        "     clear CSRC            0",
+        "     hidden CSRC           1",
+        "     ext. header           1",
+        "     clear block           0",
+        "     hidden block          1",
+        "     payload               1",
+        "     first tag byte        1",
+        "     last tag byte         1",
+        "     other suite's         0",
+    ] {
+        assert!(table.contains(line), "{line}\n{table}");
+    }
 }
 
 /// Stretches on both sides of each condition.
@@ -201,7 +313,7 @@ fn counts_the_parts_of_stretch() {
     let table =
         String::from_utf8(reference(&["count"], stretches.concat().as_bytes()).stdout).unwrap();
     let expected = [
-        "stretch           25",
+        "stretch             25",
         "   0 result         17",
         "     ends at 2^20          2",
         "     out of a block        2",
@@ -210,7 +322,7 @@ fn counts_the_parts_of_stretch() {
         "     ends at 2^20 + 1      3",
         "     length 0              2",
         "     end past 64 bits      2",
-        "state              0",
+        "state                0",
     ];
     assert!(table.contains(&expected.join("\n")), "{table}");
 }

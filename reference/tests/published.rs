@@ -5,6 +5,7 @@ use reference::aes::{s_box, Aes};
 use reference::hmac::hmac_sha1;
 use reference::keystream::{aes_cm, derive};
 use reference::session::{Session, Way};
+use reference::suite::Suite;
 use reference::{hex, sha1};
 
 const VECTORS: &str = include_str!("vectors.txt");
@@ -106,13 +107,13 @@ fn packets_of_libsrtp() {
             other => panic!("unknown packet {other}"),
         };
         let (plain, wire) = (bytes(words[1]), bytes(words[2]));
-        let mut sender = Session::make(&key, &salt, policy, ids).unwrap();
+        let mut sender = Session::make(Suite::CounterMode, &key, &salt, policy, ids).unwrap();
         sender.add(0xcafe_babe, Way::Sending, 0).unwrap();
         let mut buffer = plain.clone();
         buffer.resize(wire.len(), 0);
         assert_eq!(sender.protect(&mut buffer, plain.len() as u64), Ok(wire.len()));
         assert_eq!(buffer, wire);
-        let mut receiver = Session::make(&key, &salt, policy, ids).unwrap();
+        let mut receiver = Session::make(Suite::CounterMode, &key, &salt, policy, ids).unwrap();
         receiver.add(0xcafe_babe, Way::Receiving, 0).unwrap();
         assert_eq!(receiver.unprotect(&mut buffer, wire.len() as u64), Ok(plain.len()));
         assert_eq!(buffer[..plain.len()], plain);

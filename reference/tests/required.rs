@@ -5,6 +5,7 @@
 use reference::hex;
 use reference::script::Desk;
 use reference::session::{Session, Way};
+use reference::suite::Suite;
 
 const KEYS: &str = "e1f97a0d3e018be0d64fa32c06de4139 0ec675ad498afeebb6960b3aabe6";
 const SSRC: u32 = 0xcafe_babe;
@@ -78,7 +79,7 @@ fn every_policy_takes_a_packet_with_nothing_to_hide() {
 fn sent_in_clear(first_byte: u8, sequence: u16) -> (String, String) {
     let (key, salt) = KEYS.split_once(' ').unwrap();
     let bytes = |word: &str| hex::read(word.as_bytes(), 16).unwrap();
-    let mut sender = Session::make(&bytes(key), &bytes(salt), 0, &[]).unwrap();
+    let mut sender = Session::make(Suite::CounterMode, &bytes(key), &bytes(salt), 0, &[]).unwrap();
     sender.add(SSRC, Way::Sending, 0).unwrap();
     let mut buffer = vec![0; 100];
     buffer[0] = first_byte;

@@ -5,6 +5,7 @@ use reference::elements::{self, id_set};
 use reference::hex;
 use reference::keystream::SessionKeys;
 use reference::packet::{self, Context, Policy};
+use reference::suite::Keys;
 
 const MASTER_KEY: &str = "e1f97a0d3e018be0d64fa32c06de4139";
 const MASTER_SALT: &str = "0ec675ad498afeebb6960b3aabe6";
@@ -47,7 +48,7 @@ fn encryption_mask() {
 /// The block within a packet, there and back.
 #[test]
 fn cipher_text() {
-    let keys = keys();
+    let keys = Keys::CounterMode(keys());
     let ids = id_set(&[4, 1, 3, 3, 0]);
     let context = Context { keys: &keys, policy: Policy::Mask, ids: &ids, index: INDEX as i128 };
     let packet = bytes(&format!("900f1234decafbadcafebabebede0006{PLAIN}abab"));
@@ -55,6 +56,7 @@ fn cipher_text() {
     assert_eq!(wire.len(), packet.len() + 10);
     assert_eq!(wire[..16], packet[..16]);
     assert_eq!(hex::write(&wire[16..40]), CIPHER_TEXT);
-    let plain = packet::unprotect(&context, &wire[..packet.len()]).unwrap();
+    let (bytes, tag) = wire.split_at(packet.len());
+    let plain = packet::unprotect(&context, bytes, tag).unwrap();
     assert_eq!(plain, packet);
 }

@@ -4,6 +4,7 @@ use reference::hex;
 use reference::keystream::SessionKeys;
 use reference::refusal::Refusal;
 use reference::session::{Session, Way};
+use reference::suite::Suite;
 
 const VECTORS: &str = include_str!("rfc9335.txt");
 const SSRC: u32 = 0xcafe_babe;
@@ -25,8 +26,14 @@ fn packets() -> Vec<(Vec<u8>, Vec<u8>)> {
 }
 
 fn session(policy: u64, way: Way) -> Session {
-    let mut session =
-        Session::make(&common("master-key"), &common("master-salt"), policy, &[]).unwrap();
+    let mut session = Session::make(
+        Suite::CounterMode,
+        &common("master-key"),
+        &common("master-salt"),
+        policy,
+        &[],
+    )
+    .unwrap();
     session.add(SSRC, way, 0).unwrap();
     session
 }

@@ -73,12 +73,12 @@ fn words_that_cannot_be_read() {
 fn too_many_and_too_few_words() {
     let right = format!("stretch {}", RIGHT.join(" "));
     assert_eq!(answer(&right), "0 4bf342");
-    for place in 0..6 {
+    for (place, word) in RIGHT.into_iter().enumerate() {
         let mut words = RIGHT.to_vec();
         words.remove(place);
         assert_eq!(answer(&format!("stretch {}", words.join(" "))), "?");
         let mut words = RIGHT.to_vec();
-        words.insert(place, RIGHT[place]);
+        words.insert(place, word);
         assert_eq!(answer(&format!("stretch {}", words.join(" "))), "?");
     }
     for line in ["stretch", "stretch ", "stretch 0", "Stretch", "stretches"] {
@@ -105,7 +105,7 @@ fn noise() {
     let right = format!("stretch {}", RIGHT.join(" "));
     let data = right.len() - RIGHT[5].len();
     for end in 1..right.len() {
-        let is_readable = end > data && (end - data) % 2 == 0;
+        let is_readable = end > data && (end - data).is_multiple_of(2);
         assert_eq!(answer(&right[..end]) != "?", is_readable, "{}", &right[..end]);
     }
     let mut dice = Dice::new(12);

@@ -4,6 +4,7 @@ use reference::index::next_sent;
 use reference::refusal::Refusal;
 use reference::script::Desk;
 use reference::session::{Session, Way};
+use reference::suite::Suite;
 
 const KEY: [u8; 16] = [7; 16];
 const SALT: [u8; 14] = [9; 14];
@@ -57,7 +58,7 @@ fn masks() {
 }
 
 fn protect_all(policy: u64, first_byte: u8, n: usize) -> Result<usize, Refusal> {
-    let mut session = Session::make(&KEY, &SALT, policy, &[]).unwrap();
+    let mut session = Session::make(Suite::CounterMode, &KEY, &SALT, policy, &[]).unwrap();
     session.add(SSRC, Way::Sending, 0).unwrap();
     let mut buffer = vec![0; 4_096];
     buffer[0] = first_byte;

@@ -1,4 +1,4 @@
-/* The C interface: published packets both ways, published keystream in stretches, refusals, wrong memory, and memory that holds anything. */
+/* The C interface: published packets of both suites both ways, published keystream in stretches, refusals, wrong memory, and memory that holds anything. */
 #include "delugash.h"
 
 #include <stdint.h>
@@ -52,6 +52,69 @@ static const uint8_t bare[28] = "\x80\x0f\x12\x3a\xde\xca\xfb\xad\xca\xfe\xba\xb
 static const uint8_t bare_wire[38] = "\x80\x0f\x12\x3a\xde\xca\xfb\xad\xca\xfe\xba\xbe\xda\x9a\xff\x40\x55\x81\xa9\x26"
                                      "\xe3\xd9\xf6\x4b\x25\xc9\xe7\x4c\x29\x36\x56\x31\xa1\xa5\xa7\x04\x45\x3a";
 
+/* RFC 9335, A.2: the master key and salt of its second suite; A.2.1 to A.2.6: the packet's length, the packet, and what is sent, 16 bytes longer. */
+static const uint8_t gcm_key[16] = {0x00, 0x01, 0x02, 0x03, 0x04, 0x05, 0x06, 0x07, 0x08, 0x09, 0x0a, 0x0b, 0x0c, 0x0d, 0x0e, 0x0f};
+static const uint8_t gcm_salt[12] = {0xa0, 0xa1, 0xa2, 0xa3, 0xa4, 0xa5, 0xa6, 0xa7, 0xa8, 0xa9, 0xaa, 0xab};
+static const struct {
+    size_t n;
+    uint8_t plain[44], wire[60];
+} gcm_published[6] = {
+    {36,
+     "\x90\x0f\x12\x35\xde\xca\xfb\xad\xca\xfe\xba\xbe\xbe\xde\x00\x01\x51\x00\x02\x00\xab\xab\xab\xab\xab\xab"
+     "\xab\xab\xab\xab\xab\xab\xab\xab\xab\xab",
+     "\x90\x0f\x12\x35\xde\xca\xfb\xad\xca\xfe\xba\xbe\xc0\xde\x00\x01\x39\x97\x2d\xc9\x57\x2c\x4d\x99\xe8\xfc"
+     "\x35\x5d\xe7\x43\xfb\x2e\x94\xf9\xd8\xff\x54\xe7\x2f\x41\x93\xbb\xc5\xc7\x4f\xfa\xb0\xfa\x9f\xa0\xfb\xeb"},
+    {36,
+     "\x90\x0f\x12\x36\xde\xca\xfb\xad\xca\xfe\xba\xbe\x10\x00\x00\x01\x05\x02\x00\x02\xab\xab\xab\xab\xab\xab"
+     "\xab\xab\xab\xab\xab\xab\xab\xab\xab\xab",
+     "\x90\x0f\x12\x36\xde\xca\xfb\xad\xca\xfe\xba\xbe\xc2\xde\x00\x01\xbb\x75\xa4\xc5\x45\xcd\x1f\x41\x3b\xdb"
+     "\x7d\xaa\x2b\x1e\x32\x63\xde\x31\x36\x67\xc9\x63\x24\x90\x81\xb3\x5a\x65\xf5\xcb\x6c\x88\xb3\x94\x23\x5f"},
+    {44,
+     "\x92\x0f\x12\x38\xde\xca\xfb\xad\xca\xfe\xba\xbe\x00\x01\xe2\x40\x00\x00\xb2\x6e\xbe\xde\x00\x01\x51\x00"
+     "\x02\x00\xab\xab\xab\xab\xab\xab\xab\xab\xab\xab\xab\xab\xab\xab\xab\xab",
+     "\x92\x0f\x12\x38\xde\xca\xfb\xad\xca\xfe\xba\xbe\x63\xbb\xcc\xc4\xa7\xf6\x95\xc4\xc0\xde\x00\x01\x8a\xd7"
+     "\xc7\x1f\xac\x70\xa8\x0c\x92\x86\x6b\x4c\x6b\xa9\x85\x46\xef\x91\x35\x86\xe9\x5f\xfa\xaf\xfe\x95\x68\x85"
+     "\xbb\x06\x47\xa8\xbc\x09\x4a\xc8"},
+    {44,
+     "\x92\x0f\x12\x39\xde\xca\xfb\xad\xca\xfe\xba\xbe\x00\x01\xe2\x40\x00\x00\xb2\x6e\x10\x00\x00\x01\x05\x02"
+     "\x00\x02\xab\xab\xab\xab\xab\xab\xab\xab\xab\xab\xab\xab\xab\xab\xab\xab",
+     "\x92\x0f\x12\x39\xde\xca\xfb\xad\xca\xfe\xba\xbe\x36\x80\x52\x4f\x8d\x31\x2b\x00\xc2\xde\x00\x01\xc7\x8d"
+     "\x12\x00\x38\x42\x2b\xc1\x11\xa7\x18\x7a\x18\x24\x6f\x98\x0c\x05\x9c\xc6\xbc\x9d\xf8\xb6\x26\x39\x4e\xca"
+     "\x34\x4e\x4b\x05\xd8\x0f\xea\x83"},
+    {40,
+     "\x92\x0f\x12\x3a\xde\xca\xfb\xad\xca\xfe\xba\xbe\x00\x01\xe2\x40\x00\x00\xb2\x6e\xbe\xde\x00\x00\xab\xab"
+     "\xab\xab\xab\xab\xab\xab\xab\xab\xab\xab\xab\xab\xab\xab",
+     "\x92\x0f\x12\x3a\xde\xca\xfb\xad\xca\xfe\xba\xbe\x15\xb6\xbb\x43\x37\x90\x6f\xff\xc0\xde\x00\x00\xb7\xb9"
+     "\x64\x53\x7a\x2b\x03\xab\x7b\xa5\x38\x9c\xe9\x33\x17\x12\x6b\x5d\x97\x4d\xf3\x0c\x68\x84\xdc\xb6\x51\xc5"
+     "\xe1\x20\xc1\xda"},
+    {40,
+     "\x92\x0f\x12\x3b\xde\xca\xfb\xad\xca\xfe\xba\xbe\x00\x01\xe2\x40\x00\x00\xb2\x6e\x10\x00\x00\x00\xab\xab"
+     "\xab\xab\xab\xab\xab\xab\xab\xab\xab\xab\xab\xab\xab\xab",
+     "\x92\x0f\x12\x3b\xde\xca\xfb\xad\xca\xfe\xba\xbe\xdc\xb3\x8c\x9e\x48\xbf\x95\xf4\xc2\xde\x00\x00\x61\xee"
+     "\x43\x2c\xf9\x20\x31\x70\x76\x61\x32\x58\xd3\xce\x42\x36\xc0\x6a\xc4\x29\x68\x1a\xd0\x84\x13\x51\x2d\xc9"
+     "\x8b\x52\x07\xd8"},
+};
+
+/* A packet without contributors and extension under the same key and salt, as libsrtp sends it. */
+static const uint8_t gcm_bare[28] = "\x80\x0f\x12\x34\xde\xca\xfb\xad\xca\xfe\xba\xbe\xab\xab\xab\xab\xab\xab"
+                                    "\xab\xab\xab\xab\xab\xab\xab\xab\xab\xab";
+static const uint8_t gcm_bare_wire[44] = "\x80\x0f\x12\x34\xde\xca\xfb\xad\xca\xfe\xba\xbe\xc5\x00\x2e\xde"
+                                         "\x04\xcf\xdd\x2e\xb9\x11\x59\xe0\x88\x0a\xa0\x6e\xd2\x97\x68\x26"
+                                         "\xf7\x96\xb2\x01\xdf\x31\x31\xa1\x27\xe8\xa3\x92";
+
+/* What a suite sets: its number, the bytes of salt and tag, and the last policy; then the keys that its tests take. */
+typedef struct {
+    uint32_t number;
+    size_t salt_length, tag;
+    uint64_t last_policy;
+    const uint8_t *key, *salt;
+} suite;
+
+static const suite suites[2] = {
+    {DELUGASH_SUITE_CM_HMAC, 14, 10, 3, key, salt},
+    {DELUGASH_SUITE_GCM, 12, 16, 2, gcm_key, gcm_salt},
+};
+
 /* Session memory of exactly the size asked for, so that a tool can see a step beyond it. */
 static uint64_t *memory(void)
 {
@@ -61,12 +124,17 @@ static uint64_t *memory(void)
     return words;
 }
 
-static uint64_t *session(uint64_t policy, uint32_t way)
+static uint64_t *session_of(const suite *of, uint64_t policy, uint32_t way)
 {
     uint64_t *s = memory();
-    CHECK(delugash_make(s, delugash_size(), key, sizeof key, salt, sizeof salt, policy, NULL, 0) == DELUGASH_OK);
+    CHECK(delugash_make(s, delugash_size(), of->key, 16, of->salt, of->salt_length, policy, NULL, 0, of->number) == DELUGASH_OK);
     CHECK(delugash_add(s, delugash_size(), 0xcafebabe, way, 0) == DELUGASH_OK);
     return s;
+}
+
+static uint64_t *session(uint64_t policy, uint32_t way)
+{
+    return session_of(&suites[0], policy, way);
 }
 
 static void published_packet_both_ways(void)
@@ -163,7 +231,9 @@ static void wrong_memory(void)
     CHECK(delugash_protect(s, delugash_size() - 1, buf, sizeof buf, 36).number == DELUGASH_MEMORY);
     CHECK(delugash_unprotect(few, 1, buf, sizeof buf, 46).number == DELUGASH_MEMORY);
     CHECK(delugash_add(few, 0, 1, DELUGASH_SENDING, 0) == DELUGASH_MEMORY);
-    CHECK(delugash_make(few, 1, key, sizeof key, salt, sizeof salt, 0, key, 0) == DELUGASH_MEMORY);
+    CHECK(delugash_make(few, 1, key, sizeof key, salt, sizeof salt, 0, key, 0, DELUGASH_SUITE_CM_HMAC) == DELUGASH_MEMORY);
+    CHECK(delugash_make(few, 1, gcm_key, sizeof gcm_key, gcm_salt, sizeof gcm_salt, 0, key, 0, DELUGASH_SUITE_GCM) == DELUGASH_MEMORY);
+    CHECK(delugash_make(few, 1, key, sizeof key, salt, sizeof salt, 0, key, 0, 2) == DELUGASH_MEMORY);
     CHECK(few[0] == 0x5555 && memcmp(buf, plain, sizeof plain) == 0);
     free(s);
 }
@@ -171,16 +241,322 @@ static void wrong_memory(void)
 static void making(void)
 {
     uint64_t *s = session(0, DELUGASH_SENDING);
-    CHECK(delugash_make(s, delugash_size(), key, 15, salt, sizeof salt, 0, key, 0) == DELUGASH_KEYS);
+    CHECK(delugash_make(s, delugash_size(), key, 15, salt, sizeof salt, 0, key, 0, DELUGASH_SUITE_CM_HMAC) == DELUGASH_KEYS);
     /* a refused making leaves the unmade session, which takes no stream */
     CHECK(delugash_add(s, delugash_size(), 5, DELUGASH_SENDING, 0) == DELUGASH_KEYS);
-    CHECK(delugash_make(s, delugash_size(), key, sizeof key, salt, sizeof salt, 4, key, 0) == DELUGASH_POLICY);
-    CHECK(delugash_make(s, delugash_size(), key, sizeof key, salt, 13, 9, key, 0) == DELUGASH_KEYS);
-    CHECK(delugash_make(s, delugash_size(), key, sizeof key, salt, sizeof salt, 3, key, 16) == DELUGASH_OK);
+    CHECK(delugash_make(s, delugash_size(), key, sizeof key, salt, sizeof salt, 4, key, 0, DELUGASH_SUITE_CM_HMAC) == DELUGASH_POLICY);
+    CHECK(delugash_make(s, delugash_size(), key, sizeof key, salt, 13, 9, key, 0, DELUGASH_SUITE_CM_HMAC) == DELUGASH_KEYS);
+    CHECK(delugash_make(s, delugash_size(), key, sizeof key, salt, sizeof salt, 3, key, 16, DELUGASH_SUITE_CM_HMAC) == DELUGASH_OK);
     for (uint32_t i = 0; i < 32; i++)
         CHECK(delugash_add(s, delugash_size(), i, i % 2, i) == DELUGASH_OK);
     CHECK(delugash_add(s, delugash_size(), 32, DELUGASH_SENDING, 0) == DELUGASH_FULL);
     free(s);
+}
+
+/* Every length of key and salt about the right ones, and every policy, with both suites, each in the memory of a made session. KEYS comes before POLICY;
+ * each refusal leaves the same memory, that of the unmade session. */
+static void making_with_both_suites(void)
+{
+    static const size_t keys[] = {0, 15, 16, 17}, salts[] = {0, 11, 12, 13, 14, 15};
+    static const uint64_t policies[] = {0, 1, 2, 3, 4, UINT64_MAX};
+    uint8_t bytes[17] = {0};
+    uint64_t *s = memory(), *unmade = session(0, DELUGASH_SENDING);
+    CHECK(delugash_make(unmade, delugash_size(), key, 15, salt, 14, 0, NULL, 0, DELUGASH_SUITE_CM_HMAC) == DELUGASH_KEYS);
+    for (int i = 0; i < 2; i++)
+        for (size_t k = 0; k < sizeof keys / sizeof *keys; k++)
+            for (size_t l = 0; l < sizeof salts / sizeof *salts; l++)
+                for (size_t p = 0; p < sizeof policies / sizeof *policies; p++) {
+                    int right = keys[k] == 16 && salts[l] == suites[i].salt_length;
+                    uint32_t expected = !right ? DELUGASH_KEYS : policies[p] > suites[i].last_policy ? DELUGASH_POLICY : DELUGASH_OK;
+                    CHECK(delugash_make(s, delugash_size(), key, 16, salt, 14, 0, NULL, 0, DELUGASH_SUITE_CM_HMAC) == DELUGASH_OK);
+                    CHECK(delugash_make(s, delugash_size(), bytes, keys[k], bytes, salts[l], policies[p], NULL, 0, suites[i].number) == expected);
+                    CHECK((memcmp(s, unmade, delugash_size() * sizeof *s) == 0) == (expected != DELUGASH_OK));
+                    CHECK(delugash_add(s, delugash_size(), 5, DELUGASH_SENDING, 0) == (expected == DELUGASH_OK ? DELUGASH_OK : DELUGASH_KEYS));
+                }
+    free(s);
+    free(unmade);
+}
+
+/* A suite that is neither is refused before anything else is looked at but the memory's length; the session that was there goes on. */
+static void no_such_suite(void)
+{
+    static const uint32_t numbers[] = {2, 3, 256, 257, 0x10000, 0x80000000, 0x80000001, 0xffffffff};
+    uint64_t *s = session_of(&suites[1], 1, DELUGASH_RECEIVING), *before = memory();
+    uint8_t buf[52];
+    memcpy(before, s, delugash_size() * sizeof *s);
+    for (size_t i = 0; i < sizeof numbers / sizeof *numbers; i++) {
+        CHECK(delugash_make(s, delugash_size(), key, 16, salt, 14, 0, NULL, 0, numbers[i]) == DELUGASH_SUITE);
+        CHECK(delugash_make(s, delugash_size(), gcm_key, 16, gcm_salt, 12, 0, NULL, 0, numbers[i]) == DELUGASH_SUITE);
+        CHECK(delugash_make(s, delugash_size(), NULL, 0, NULL, 0, 4, NULL, 0, numbers[i]) == DELUGASH_SUITE);
+        CHECK(delugash_make(s, delugash_size() - 1, NULL, 0, NULL, 0, 4, NULL, 0, numbers[i]) == DELUGASH_MEMORY);
+        CHECK(memcmp(s, before, delugash_size() * sizeof *s) == 0);
+    }
+    memcpy(buf, gcm_published[0].wire, sizeof buf);
+    CHECK(delugash_unprotect(s, delugash_size(), buf, sizeof buf, sizeof buf).number == DELUGASH_OK);
+    free(s);
+    free(before);
+}
+
+/* RFC 9335, A.2.1 to A.2.6, one after another through the same two sessions, then each once more. */
+static void published_gcm_packets_both_ways(void)
+{
+    for (uint64_t policy = DELUGASH_CRYPTEX; policy <= DELUGASH_CRYPTEX_REQUIRED; policy++) {
+        uint64_t *sender = session_of(&suites[1], policy, DELUGASH_SENDING), *receiver = session_of(&suites[1], policy, DELUGASH_RECEIVING);
+        for (int i = 0; i < 6; i++) {
+            size_t n = gcm_published[i].n, m = n + 16;
+            uint8_t buf[80];
+            memset(buf, 0x55, sizeof buf);
+            memcpy(buf, gcm_published[i].plain, n);
+            delugash_answer a = delugash_protect(sender, delugash_size(), buf, sizeof buf, n);
+            CHECK(a.number == DELUGASH_OK && a.length == m);
+            CHECK(memcmp(buf, gcm_published[i].wire, m) == 0);
+            CHECK(buf[m] == 0x55 && buf[79] == 0x55);
+            a = delugash_unprotect(receiver, delugash_size(), buf, sizeof buf, m);
+            CHECK(a.number == DELUGASH_OK && a.length == n);
+            CHECK(memcmp(buf, gcm_published[i].plain, n) == 0 && memcmp(buf + n, gcm_published[i].wire + n, 16) == 0);
+            CHECK(buf[m] == 0x55 && buf[79] == 0x55);
+        }
+        for (int i = 0; i < 6; i++) {
+            uint8_t buf[60];
+            memcpy(buf, gcm_published[i].wire, sizeof buf);
+            CHECK(delugash_unprotect(receiver, delugash_size(), buf, sizeof buf, gcm_published[i].n + 16).number == DELUGASH_REPEAT);
+            CHECK(memcmp(buf, gcm_published[i].wire, sizeof buf) == 0);
+        }
+        free(sender);
+        free(receiver);
+    }
+}
+
+/* A packet that Cryptex has nothing to hide in is the same under all three policies. */
+static void bare_gcm_packet_both_ways(void)
+{
+    for (uint64_t policy = 0; policy <= DELUGASH_CRYPTEX_REQUIRED; policy++) {
+        uint64_t *sender = session_of(&suites[1], policy, DELUGASH_SENDING), *receiver = session_of(&suites[1], policy, DELUGASH_RECEIVING);
+        uint8_t buf[44];
+        memcpy(buf, gcm_bare, sizeof gcm_bare);
+        CHECK(delugash_protect(sender, delugash_size(), buf, sizeof buf, sizeof gcm_bare).length == sizeof buf);
+        CHECK(memcmp(buf, gcm_bare_wire, sizeof buf) == 0);
+        CHECK(delugash_unprotect(receiver, delugash_size(), buf, sizeof buf, sizeof buf).length == sizeof gcm_bare);
+        CHECK(memcmp(buf, gcm_bare, sizeof gcm_bare) == 0);
+        free(sender);
+        free(receiver);
+    }
+}
+
+/* A published packet with any bit of any byte turned over is refused, for its tag wherever nothing that is looked at before can be wrong with it; buffer and
+ * session stay, and the right packet is taken after all of them. So the tag is over all that goes in clear and all that is encrypted, and every byte of the
+ * tag counts. */
+static void every_bit_counts(const suite *of, const uint8_t *sent, size_t m)
+{
+    uint64_t *s = session_of(of, DELUGASH_CRYPTEX, DELUGASH_RECEIVING), *before = memory();
+    size_t extension = 12 + 4 * (size_t)(sent[0] & 0x0f);
+    memcpy(before, s, delugash_size() * sizeof *s);
+    for (size_t bit = 0; bit < 8 * m; bit++) {
+        uint8_t forged[60], buf[60];
+        size_t at = bit / 8;
+        memcpy(forged, sent, m);
+        forged[at] ^= (uint8_t)(1u << bit % 8);
+        memcpy(buf, forged, m);
+        delugash_answer a = delugash_unprotect(s, delugash_size(), buf, m, m);
+        /* the first byte has the version and how many contributors, the SSRC names the stream, and the extension header ends in a count */
+        int looked_at = at == 0 || (at >= 8 && at < 12) || ((sent[0] & 0x10) && (at == extension + 2 || at == extension + 3));
+        CHECK(looked_at ? a.number != DELUGASH_OK : a.number == DELUGASH_TAG);
+        CHECK(a.length == 0 && memcmp(buf, forged, m) == 0);
+        CHECK(memcmp(s, before, delugash_size() * sizeof *s) == 0);
+    }
+    uint8_t buf[60];
+    memcpy(buf, sent, m);
+    CHECK(delugash_unprotect(s, delugash_size(), buf, m, m).length == m - of->tag);
+    free(s);
+    free(before);
+}
+
+static void wrong_bits(void)
+{
+    every_bit_counts(&suites[0], wire, sizeof wire);
+    every_bit_counts(&suites[0], with_block_wire, sizeof with_block_wire);
+    for (int i = 0; i < 6; i++)
+        every_bit_counts(&suites[1], gcm_published[i].wire, gcm_published[i].n + 16);
+    every_bit_counts(&suites[1], gcm_bare_wire, sizeof gcm_bare_wire);
+}
+
+/* A packet of zeros with this first byte and of the tests' stream, in memory of exactly this length. */
+static uint8_t *zeros(uint8_t first, size_t length)
+{
+    uint8_t *buf = calloc(length, 1);
+    if (buf == NULL)
+        exit(2);
+    buf[0] = first;
+    memcpy(buf + 8, "\xca\xfe\xba\xbe", 4);
+    return buf;
+}
+
+/* What protecting such a packet of n bytes gives, in a session of its own: the new length, or the number below 0. */
+static long sent_length(const suite *of, uint64_t policy, uint8_t first, size_t n, size_t length)
+{
+    uint64_t *s = session_of(of, policy, DELUGASH_SENDING);
+    uint8_t *buf = zeros(first, length);
+    delugash_answer a = delugash_protect(s, delugash_size(), buf, length, n);
+    free(s);
+    free(buf);
+    return a.number == DELUGASH_OK ? (long)a.length : -(long)a.number;
+}
+
+/* LARGE and ROOM on both sides of their limits, with the tag's length and, under Cryptex with a contributor, the added block's. */
+static void limits_of_sending(void)
+{
+    for (int i = 0; i < 2; i++) {
+        const suite *of = &suites[i];
+        size_t t = of->tag;
+        for (uint64_t policy = 0; policy <= of->last_policy; policy++) {
+            int cryptex = policy == DELUGASH_CRYPTEX || policy == DELUGASH_CRYPTEX_REQUIRED;
+            for (uint8_t first = 0x80; first <= 0x81; first++) {
+                size_t growth = t + (cryptex && first == 0x81 ? 4 : 0);
+                CHECK(growth <= DELUGASH_MAX_GROWTH);
+                CHECK(sent_length(of, policy, first, 2048 - growth, 2048) == 2048);
+                CHECK(sent_length(of, policy, first, 2048 - growth, 2047) == -DELUGASH_ROOM);
+                CHECK(sent_length(of, policy, first, 2049 - growth, 4096) == -DELUGASH_LARGE);
+                CHECK(sent_length(of, policy, first, 2049 - growth, 2048) == -DELUGASH_LARGE);
+                CHECK(sent_length(of, policy, first, 100, 100 + growth) == (long)(100 + growth));
+                CHECK(sent_length(of, policy, first, 100, 99 + growth) == -DELUGASH_ROOM);
+                CHECK(sent_length(of, policy, first, 11, 100) == -DELUGASH_SHORT);
+            }
+            CHECK(sent_length(of, policy, 0x80, 12, 12 + t) == (long)(12 + t));
+            CHECK(sent_length(of, policy, 0x81, 15, 100) == -DELUGASH_HEADER);
+        }
+    }
+    CHECK(DELUGASH_MAX_GROWTH == 20 && sent_length(&suites[1], DELUGASH_CRYPTEX, 0x81, 100, 200) == 100 + DELUGASH_MAX_GROWTH);
+}
+
+/* A packet whose header ends it: so many contributors, and so many words of extension block, or no extension below 0. The tag follows at once. Told shorter
+ * by a byte or more, it is SHORT where fixed header and tag do not fit, and HEADER where the rest of the header does not. */
+static void header_ends_at_the_tag(const suite *of, unsigned contributors, int words)
+{
+    size_t head = 12 + 4 * contributors + (words < 0 ? 0 : 4 + 4 * (size_t)words), m = head + of->tag;
+    uint64_t *sender = session_of(of, DELUGASH_PLAIN, DELUGASH_SENDING), *receiver = session_of(of, DELUGASH_PLAIN, DELUGASH_RECEIVING);
+    uint8_t *buf = zeros((uint8_t)(0x80 | (words < 0 ? 0 : 0x10) | contributors), m);
+    if (words >= 0) {
+        memcpy(buf + 12 + 4 * contributors, "\xbe\xde\x00", 3);
+        buf[15 + 4 * contributors] = (uint8_t)words;
+    }
+    CHECK(delugash_protect(sender, delugash_size(), buf, m, head).length == m);
+    for (size_t n = 0; n < m; n++)
+        CHECK(delugash_unprotect(receiver, delugash_size(), buf, m, n).number == (n < 12 + of->tag ? DELUGASH_SHORT : DELUGASH_HEADER));
+    CHECK(delugash_unprotect(receiver, delugash_size(), buf, m, m).length == head);
+    free(sender);
+    free(receiver);
+    free(buf);
+}
+
+static void limits_of_receiving(void)
+{
+    for (int i = 0; i < 2; i++) {
+        const suite *of = &suites[i];
+        for (unsigned contributors = 0; contributors <= 15; contributors++)
+            for (int words = -1; words <= 8; words++)
+                header_ends_at_the_tag(of, contributors, words);
+        uint64_t *sender = session_of(of, DELUGASH_PLAIN, DELUGASH_SENDING), *receiver = session_of(of, DELUGASH_PLAIN, DELUGASH_RECEIVING);
+        uint8_t *buf = zeros(0x80, 2049);
+        CHECK(delugash_protect(sender, delugash_size(), buf, 2049, 2048 - of->tag).length == 2048);
+        CHECK(delugash_unprotect(receiver, delugash_size(), buf, 2049, 2049).number == DELUGASH_LARGE);
+        CHECK(delugash_unprotect(receiver, delugash_size(), buf, 2048, 2049).number == DELUGASH_LENGTH);
+        CHECK(delugash_unprotect(receiver, delugash_size(), buf, 2048, 2047).number == DELUGASH_TAG);
+        CHECK(delugash_unprotect(receiver, delugash_size(), buf, 2048, 2048).length == 2048 - of->tag);
+        free(sender);
+        free(receiver);
+        free(buf);
+    }
+}
+
+/* Required Cryptex refuses contributors or an extension in clear with GCM too; the other policies take them. */
+static void required_means_required_with_gcm(void)
+{
+    /* up to 2 contributors, without an extension and with an empty one */
+    static const uint8_t firsts[] = {0x80, 0x81, 0x82, 0x90, 0x91, 0x92};
+    for (size_t i = 0; i < sizeof firsts; i++) {
+        uint64_t *sender = session_of(&suites[1], DELUGASH_PLAIN, DELUGASH_SENDING);
+        uint8_t *sent = zeros(firsts[i], 66), buf[66];
+        CHECK(delugash_protect(sender, delugash_size(), sent, 66, 50).length == 66);
+        for (uint64_t policy = 0; policy <= DELUGASH_CRYPTEX_REQUIRED; policy++) {
+            uint64_t *receiver = session_of(&suites[1], policy, DELUGASH_RECEIVING);
+            memcpy(buf, sent, sizeof buf);
+            delugash_answer a = delugash_unprotect(receiver, delugash_size(), buf, sizeof buf, sizeof buf);
+            CHECK(a.number == (policy == DELUGASH_CRYPTEX_REQUIRED && firsts[i] != 0x80 ? DELUGASH_PROFILE : DELUGASH_OK));
+            free(receiver);
+        }
+        free(sender);
+        free(sent);
+    }
+}
+
+/* A packet of the other suite is refused for its tag, also where both derive the same cipher key: the first suite's salt is GCM's and two zeros. */
+static void crossed_suites(void)
+{
+    static const uint8_t longer[14] = {0xa0, 0xa1, 0xa2, 0xa3, 0xa4, 0xa5, 0xa6, 0xa7, 0xa8, 0xa9, 0xaa, 0xab, 0, 0};
+    static const suite alike[2] = {{DELUGASH_SUITE_CM_HMAC, 14, 10, 3, gcm_key, longer}, {DELUGASH_SUITE_GCM, 12, 16, 2, gcm_key, gcm_salt}};
+    for (int i = 0; i < 2; i++)
+        for (uint64_t policy = 0; policy <= DELUGASH_CRYPTEX_REQUIRED; policy++) {
+            uint64_t *sender = session_of(&alike[i], policy, DELUGASH_SENDING), *before = memory();
+            uint64_t *other = session_of(&alike[1 - i], policy, DELUGASH_RECEIVING), *own = session_of(&alike[i], policy, DELUGASH_RECEIVING);
+            uint8_t sent[60], buf[60];
+            memcpy(sent, gcm_published[2].plain, gcm_published[2].n);
+            size_t m = delugash_protect(sender, delugash_size(), sent, sizeof sent, gcm_published[2].n).length;
+            CHECK(m == gcm_published[2].n + alike[i].tag);
+            memcpy(buf, sent, sizeof buf);
+            memcpy(before, other, delugash_size() * sizeof *other);
+            CHECK(delugash_unprotect(other, delugash_size(), buf, sizeof buf, m).number == DELUGASH_TAG);
+            CHECK(memcmp(buf, sent, sizeof buf) == 0 && memcmp(other, before, delugash_size() * sizeof *other) == 0);
+            CHECK(delugash_unprotect(own, delugash_size(), buf, sizeof buf, m).length == gcm_published[2].n);
+            free(sender);
+            free(before);
+            free(other);
+            free(own);
+        }
+}
+
+/* The rollover counter is a part of the index with GCM too, though nothing is appended for it: another one gives other bytes, and is refused. */
+static void rollover_with_gcm(void)
+{
+    static const uint32_t rollovers[] = {0, 1, 0x10000, 0xffffffff};
+    for (size_t i = 0; i < 4; i++)
+        for (size_t k = 0; k < 4; k++) {
+            uint64_t *sender = memory(), *receiver = memory();
+            uint8_t buf[44];
+            for (int r = 0; r < 2; r++) {
+                CHECK(delugash_make(r ? receiver : sender, delugash_size(), gcm_key, 16, gcm_salt, 12, 0, NULL, 0, DELUGASH_SUITE_GCM) == DELUGASH_OK);
+                CHECK(delugash_add(r ? receiver : sender, delugash_size(), 0xcafebabe, r ? DELUGASH_RECEIVING : DELUGASH_SENDING, rollovers[r ? k : i])
+                    == DELUGASH_OK);
+            }
+            memcpy(buf, gcm_bare, sizeof gcm_bare);
+            CHECK(delugash_protect(sender, delugash_size(), buf, sizeof buf, sizeof gcm_bare).length == sizeof buf);
+            CHECK((memcmp(buf, gcm_bare_wire, sizeof buf) == 0) == (i == 0));
+            CHECK(delugash_unprotect(receiver, delugash_size(), buf, sizeof buf, sizeof buf).number == (i == k ? DELUGASH_OK : DELUGASH_TAG));
+            free(sender);
+            free(receiver);
+        }
+}
+
+/* Memory that holds no made session counts as of the first suite: never made, or where a making with GCM was refused. */
+static void unmade_is_of_the_first_suite(void)
+{
+    for (int round = 0; round < 3; round++) {
+        uint64_t *s = memory();
+        uint8_t *buf = zeros(0x81, 4096);
+        if (round == 1)
+            CHECK(delugash_make(s, delugash_size(), gcm_key, 16, gcm_salt, 12, DELUGASH_MASK, NULL, 0, DELUGASH_SUITE_GCM) == DELUGASH_POLICY);
+        if (round == 2)
+            CHECK(delugash_make(s, delugash_size(), gcm_key, 16, salt, 14, 0, NULL, 0, DELUGASH_SUITE_GCM) == DELUGASH_KEYS);
+        CHECK(delugash_unprotect(s, delugash_size(), buf, 4096, 21).number == DELUGASH_SHORT);
+        CHECK(delugash_unprotect(s, delugash_size(), buf, 4096, 22).number == DELUGASH_HEADER);
+        CHECK(delugash_unprotect(s, delugash_size(), buf, 4096, 25).number == DELUGASH_HEADER);
+        CHECK(delugash_unprotect(s, delugash_size(), buf, 4096, 26).number == DELUGASH_STREAM);
+        CHECK(delugash_protect(s, delugash_size(), buf, 4096, 2038).number == DELUGASH_STREAM);
+        CHECK(delugash_protect(s, delugash_size(), buf, 2047, 2038).number == DELUGASH_ROOM);
+        CHECK(delugash_protect(s, delugash_size(), buf, 4096, 2039).number == DELUGASH_LARGE);
+        CHECK(delugash_add(s, delugash_size(), 5, DELUGASH_SENDING, 0) == DELUGASH_KEYS);
+        free(s);
+        free(buf);
+    }
 }
 
 /* A pointer whose length is 0 may be anything: nothing is read or written through it. */
@@ -196,7 +572,8 @@ static void no_memory(void)
         CHECK(delugash_unprotect(s, delugash_size(), p, 0, 0).number == DELUGASH_SHORT);
         CHECK(delugash_protect(p, 0, p, 0, 0).number == DELUGASH_MEMORY);
         CHECK(delugash_unprotect(p, 0, p, 0, 0).number == DELUGASH_MEMORY);
-        CHECK(delugash_make(p, 0, p, 0, p, 0, 0, p, 0) == DELUGASH_MEMORY);
+        CHECK(delugash_make(p, 0, p, 0, p, 0, 0, p, 0, DELUGASH_SUITE_GCM) == DELUGASH_MEMORY);
+        CHECK(delugash_make(s, delugash_size(), p, 0, p, 0, 0, p, 0, 2) == DELUGASH_SUITE);
         CHECK(delugash_add(p, 0, 1, DELUGASH_SENDING, 0) == DELUGASH_MEMORY);
         CHECK(delugash_find(p, 0, 1).number == DELUGASH_SHORT);
         CHECK(delugash_stretch(p, 0, p, 0, 1, 0, 0, p, 0) == DELUGASH_SIZES);
@@ -205,9 +582,12 @@ static void no_memory(void)
     }
     for (int i = 0; i < 2; i++) {
         void *p = pointers[i];
-        CHECK(delugash_make(s, delugash_size(), key, sizeof key, salt, sizeof salt, DELUGASH_MASK, p, 0) == DELUGASH_OK);
-        CHECK(delugash_make(s, delugash_size(), p, 0, salt, sizeof salt, 0, p, 0) == DELUGASH_KEYS);
-        CHECK(delugash_make(s, delugash_size(), key, sizeof key, p, 0, 0, p, 0) == DELUGASH_KEYS);
+        CHECK(delugash_make(s, delugash_size(), key, sizeof key, salt, sizeof salt, DELUGASH_MASK, p, 0, DELUGASH_SUITE_CM_HMAC) == DELUGASH_OK);
+        CHECK(delugash_make(s, delugash_size(), gcm_key, sizeof gcm_key, gcm_salt, sizeof gcm_salt, 0, p, 0, DELUGASH_SUITE_GCM) == DELUGASH_OK);
+        for (uint32_t suite = 0; suite < 2; suite++) {
+            CHECK(delugash_make(s, delugash_size(), p, 0, suites[suite].salt, suites[suite].salt_length, 0, p, 0, suite) == DELUGASH_KEYS);
+            CHECK(delugash_make(s, delugash_size(), key, sizeof key, p, 0, 0, p, 0, suite) == DELUGASH_KEYS);
+        }
     }
     free(s);
     free(before);
@@ -319,14 +699,14 @@ static uint64_t next(void)
     return z ^ (z >> 31);
 }
 
-/* Memory with anything in it; in every second round that of a made session, under any policy, with a fifth of its other words overwritten: there a
- * stream is often found. */
+/* Memory with anything in it; in every second round that of a made session, under any policy with any suite, with a fifth of its other words overwritten:
+ * there a stream is often found. The first word has both; that of the mask with GCM, which no making leaves, is among them. */
 static void any_words(uint64_t *s, const uint64_t *made, int round)
 {
     for (size_t i = 0; i < delugash_size(); i++)
         s[i] = round % 2 == 0 || next() % 5 == 0 ? next() : made[i];
     if (round % 2)
-        s[0] = made[0] + next() % 4;
+        s[0] = made[0] + next() % 8;
 }
 
 /* A packet of any bytes, but of version 2, with at most one contributor, and of the session's stream. */
@@ -383,6 +763,17 @@ int main(void)
     required_means_required();
     wrong_memory();
     making();
+    making_with_both_suites();
+    no_such_suite();
+    published_gcm_packets_both_ways();
+    bare_gcm_packet_both_ways();
+    wrong_bits();
+    limits_of_sending();
+    limits_of_receiving();
+    required_means_required_with_gcm();
+    crossed_suites();
+    rollover_with_gcm();
+    unmade_is_of_the_first_suite();
     no_memory();
     finding();
     neighbouring_stretches();

@@ -1,5 +1,6 @@
 /* Refused calls for callgrind to count, beside accepted ones: bench/refusals collects inside one of the library's calls at a time. A line for each call, in
- * order: which call, what it is for, policy, bytes, shape, the number that it gave. The shapes are those that the sender of forgeries would choose. */
+ * order: which call, what it is for, policy and 4 more with GCM, bytes, shape, the number that it gave. The shapes are those that the sender of forgeries would
+ * choose. */
 #include "delugash.h"
 
 #include <stdint.h>
@@ -8,9 +9,19 @@
 #include <string.h>
 
 /* HIGHEST: the sequence number of the packet that was accepted before the forged one comes. DATAGRAM: the most that UDP over IPv4 brings. */
-enum { TAG = 10, STREAMS = 32, FIRST_SSRC = 0x5eed0001, HIGHEST = 1000, DATAGRAM = 65507 };
+enum { STREAMS = 32, FIRST_SSRC = 0x5eed0001, HIGHEST = 1000, DATAGRAM = 65507 };
 
 static const uint8_t key[16] = {1}, salt[14] = {2}, ids[2] = {1, 2};
+
+/* The suite in use, and the length of its tag. */
+static uint32_t suite;
+static size_t tag;
+
+static void use_suite(uint32_t number)
+{
+    suite = number;
+    tag = number == DELUGASH_SUITE_GCM ? 16 : 10;
+}
 
 typedef struct {
     const char *name;
@@ -51,12 +62,13 @@ static void check(int holds, const char *what)
 
 static void print_call(const char *what, uint64_t policy, size_t n, const shape *s, uint32_t number)
 {
-    printf("%s %d %zu %s %u\n", what, (int)policy, n, s->name, (unsigned)number);
+    printf("%s %d %zu %s %u\n", what, (int)(policy + 4 * suite), n, s->name, (unsigned)number);
 }
 
 static void open_session(uint64_t *session, uint64_t policy, uint32_t way)
 {
-    check(delugash_make(session, DELUGASH_WORDS, key, sizeof key, salt, sizeof salt, policy, ids, sizeof ids) == DELUGASH_OK, "make refused");
+    size_t salt_length = suite == DELUGASH_SUITE_GCM ? 12 : 14;
+    check(delugash_make(session, DELUGASH_WORDS, key, sizeof key, salt, salt_length, policy, ids, sizeof ids, suite) == DELUGASH_OK, "make refused");
     for (uint32_t i = 0; i < STREAMS; i++)
         check(delugash_add(session, DELUGASH_WORDS, FIRST_SSRC + i, way, 0) == DELUGASH_OK, "add refused");
 }
@@ -100,8 +112,8 @@ static int wire(const shape *s, uint64_t policy, uint8_t *packet, size_t n, unsi
 {
     uint64_t sender[DELUGASH_WORDS];
     int cryptex = !s->clear && (policy == DELUGASH_CRYPTEX || policy == DELUGASH_CRYPTEX_REQUIRED);
-    size_t added = TAG + (cryptex && s->tag == 0 && s->contributors > 0 ? 4 : 0);
-    if (!fill(s, packet, n - added, sequence))
+    size_t added = tag + (cryptex && s->tag == 0 && s->contributors > 0 ? 4 : 0);
+    if (n < added || !fill(s, packet, n - added, sequence))
         return 0;
     open_session(sender, s->clear && policy != DELUGASH_MASK ? DELUGASH_PLAIN : policy, DELUGASH_SENDING);
     return delugash_protect(sender, DELUGASH_WORDS, packet, n, n - added).length == n;
@@ -156,8 +168,8 @@ static void unknown_stream(const shape *s, uint8_t *packet, size_t n)
 /* The last two bytes of the block become an element's header, of either kind, whose data is past the block. */
 static void broken_at_the_end(const shape *s, uint8_t *packet, size_t n)
 {
-    if (s->tag != 0 && n - TAG >= block_of(s) + 4)
-        put16(packet + block_of(s) + (n - TAG - block_of(s)) / 4 * 4 - 2, 0x1fff);
+    if (s->tag != 0 && n - tag >= block_of(s) + 4)
+        put16(packet + block_of(s) + (n - tag - block_of(s)) / 4 * 4 - 2, 0x1fff);
 }
 
 static void (*const forgeries[])(const shape *, uint8_t *, size_t) = {
@@ -183,7 +195,7 @@ static void count_large(const shape *s, size_t n)
 {
     static uint8_t packet[DATAGRAM];
     uint64_t receiver[DELUGASH_WORDS];
-    check(fill(s, packet, n - TAG, HIGHEST + 1), "too short");
+    check(fill(s, packet, n - tag, HIGHEST + 1), "too short");
     print_call("find absent", 0, n, s, delugash_find(packet, n, 3).number);
     print_call("find first", 0, n, s, delugash_find(packet, n, 1).number);
     for (uint64_t policy = 0; policy < 4; policy++) {
@@ -194,14 +206,18 @@ static void count_large(const shape *s, size_t n)
 
 int main(void)
 {
-    static const size_t lengths[] = {22, 38, 50, 70, 134, 210, 1210, 2046, DELUGASH_MAX_PACKET};
+    /* the first is the shortest of all, and the second the shortest with GCM */
+    static const size_t lengths[] = {22, 28, 38, 50, 70, 134, 210, 1210, 2046, DELUGASH_MAX_PACKET};
     for (size_t l = 0; l < sizeof lengths / sizeof *lengths; l++)
-        for (uint64_t policy = 0; policy < 4; policy++)
+        for (uint64_t kind = 0; kind < 7; kind++)
             for (size_t s = 0; s < SHAPES; s++) {
-                count_accepted(&shapes[s], policy, lengths[l]);
+                use_suite(kind < 4 ? DELUGASH_SUITE_CM_HMAC : DELUGASH_SUITE_GCM);
+                count_accepted(&shapes[s], kind % 4, lengths[l]);
                 for (size_t f = 0; f < sizeof forgeries / sizeof *forgeries; f++)
-                    count_refused(&shapes[s], policy, lengths[l], forgeries[f]);
+                    count_refused(&shapes[s], kind % 4, lengths[l], forgeries[f]);
             }
+    /* with GCM there is no mask, and so nothing is read of a packet that is too large */
+    use_suite(DELUGASH_SUITE_CM_HMAC);
     for (size_t s = 0; s < SHAPES; s++)
         count_large(&shapes[s], DATAGRAM);
     return 0;

@@ -6,10 +6,10 @@
 void disagree(const pair *p, const stream *s, uint64_t index, const char *what, uint64_t library, uint64_t model)
 {
     fprintf(stderr,
-            "DISAGREEMENT at packet %llu (seed %llu, run %llu, policy %llu), stream %d, SSRC %08x, index %llu, highest given back %llu\n"
+            "DISAGREEMENT at packet %llu (seed %llu, run %llu, suite %u, policy %llu), stream %d, SSRC %08x, index %llu, highest given back %llu\n"
             "%s: the library says %llu, the model %llu\n",
-            (unsigned long long)p->packet, (unsigned long long)p->seed, (unsigned long long)p->run, (unsigned long long)p->policy, (int)(s - p->streams),
-            (unsigned)s->ssrc, (unsigned long long)index, (unsigned long long)s->given_back.highest, what, (unsigned long long)library,
+            (unsigned long long)p->packet, (unsigned long long)p->seed, (unsigned long long)p->run, (unsigned)p->suite, (unsigned long long)p->policy,
+            (int)(s - p->streams), (unsigned)s->ssrc, (unsigned long long)index, (unsigned long long)s->given_back.highest, what, (unsigned long long)library,
             (unsigned long long)model);
     exit(1);
 }

@@ -57,7 +57,7 @@ static size_t payload_length(dice *d, size_t most)
     return one_in(d, 16) ? below(d, most + 1) : below(d, 240);
 }
 
-size_t craft(dice *d, uint64_t policy, uint32_t ssrc, uint16_t sequence, uint8_t *packet)
+size_t craft(dice *d, uint64_t policy, size_t most, uint32_t ssrc, uint16_t sequence, uint8_t *packet)
 {
     unsigned contributors = one_in(d, 2) ? 0 : (unsigned)below(d, 16);
     int extension = one_in(d, 2);
@@ -69,7 +69,7 @@ size_t craft(dice *d, uint64_t policy, uint32_t ssrc, uint16_t sequence, uint8_t
     put16(packet + 10, ssrc & 0xffff);
     if (extension)
         n += write_extension(d, policy, packet + n);
-    size_t payload = payload_length(d, MOST_BYTES - n);
+    size_t payload = payload_length(d, most - n);
     roll_bytes(d, packet + n, payload);
     return n + payload;
 }

@@ -4,11 +4,8 @@
 
 #include "dice.h"
 
-/* The longest packet that fits with any growth. */
-enum { MOST_BYTES = 2034 };
-
-/* Writes a packet; gives its length. */
-size_t craft(dice *d, uint64_t policy, uint32_t ssrc, uint16_t sequence, uint8_t *packet);
+/* Writes a packet of at most so many bytes, 400 or more; gives its length. */
+size_t craft(dice *d, uint64_t policy, size_t most, uint32_t ssrc, uint16_t sequence, uint8_t *packet);
 
 /* Cryptex puts a block into this packet. */
 int gets_block(uint64_t policy, const uint8_t *packet);

@@ -1,4 +1,4 @@
-/* soak PACKETS SEED: packets through pairs of sessions, a new pair every RUN packets, each policy in its turn. */
+/* soak PACKETS SEED: packets through pairs of sessions, a new pair every RUN packets, each policy of both suites in its turn. */
 #define _POSIX_C_SOURCE 200809L
 #include "pair.h"
 
@@ -65,9 +65,9 @@ static void print_counts(const char *what, const char *taken, const uint64_t *co
 
 static void print_progress(const pair *p, uint64_t packets, double start)
 {
-    printf("%llu of %llu packets, %.0f a second, run %llu, policy %llu, %llu given back, %llu forged, VmRSS %ld KB\n",
+    printf("%llu of %llu packets, %.0f a second, run %llu, suite %u, policy %llu, %llu given back, %llu forged, VmRSS %ld KB\n",
            (unsigned long long)p->packet, (unsigned long long)packets, (double)p->packet / (seconds() - start), (unsigned long long)p->run,
-           (unsigned long long)p->policy, (unsigned long long)p->counts.arrived[0], (unsigned long long)total(p->counts.forged), resident());
+           (unsigned)p->suite, (unsigned long long)p->policy, (unsigned long long)p->counts.arrived[0], (unsigned long long)total(p->counts.forged), resident());
     fflush(stdout);
 }
 

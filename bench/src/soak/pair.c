@@ -52,7 +52,8 @@ static sent *send_packet(pair *p, stream *s)
     buffer b;
     roll_bytes(&p->d, b.before + ROOM - 16, 16);
     memset(b.before, 0x5a, ROOM - 16);
-    size_t n = craft(&p->d, p->policy, s->ssrc, (uint16_t)index, b.before);
+    /* The longest that fits with a block that Cryptex adds and the tag. */
+    size_t n = craft(&p->d, p->policy, DELUGASH_MAX_PACKET - 4 - p->tag, s->ssrc, (uint16_t)index, b.before);
     delugash_answer a = checked_call(p, s, index, delugash_protect, p->sender, &b, ROOM, n);
     uint32_t expected = sender_answer(s, step);
     if (a.number != expected)
@@ -62,7 +63,7 @@ static sent *send_packet(pair *p, stream *s)
         return NULL;
     new->index = index;
     new->plain_length = restored(p->policy, b.before, n, new->plain);
-    new->wire_length = new->plain_length + 10;
+    new->wire_length = new->plain_length + p->tag;
     /* The fixed header goes as it is; the rest is checked where it is given back. */
     check_result(p, s, index, &b, a.length, new->plain, 12, new->wire_length);
     memcpy(new->wire, b.after, ROOM);

@@ -46,6 +46,9 @@ typedef struct {
     uint64_t run;
     uint64_t packet;
     uint64_t policy;
+    uint32_t suite;
+    /* The bytes of its tag. */
+    size_t tag;
     dice d;
     uint64_t sender[DELUGASH_WORDS];
     uint64_t receiver[DELUGASH_WORDS];

@@ -15,14 +15,15 @@ static void need(uint32_t number, const char *call)
 static void make_sessions(pair *p)
 {
     uint8_t key[16], salt[14], ids[8];
+    size_t salt_length = p->suite == DELUGASH_SUITE_GCM ? 12 : 14;
     roll_bytes(&p->d, key, sizeof key);
     roll_bytes(&p->d, salt, sizeof salt);
     /* Half of them one-byte ids, the others any. */
     roll_bytes(&p->d, ids, sizeof ids);
     for (size_t i = 0; i < sizeof ids; i += 2)
         ids[i] &= 0x0f;
-    need(delugash_make(p->sender, DELUGASH_WORDS, key, sizeof key, salt, sizeof salt, p->policy, ids, sizeof ids), "delugash_make");
-    need(delugash_make(p->receiver, DELUGASH_WORDS, key, sizeof key, salt, sizeof salt, p->policy, ids, sizeof ids), "delugash_make");
+    need(delugash_make(p->sender, DELUGASH_WORDS, key, sizeof key, salt, salt_length, p->policy, ids, sizeof ids, p->suite), "delugash_make");
+    need(delugash_make(p->receiver, DELUGASH_WORDS, key, sizeof key, salt, salt_length, p->policy, ids, sizeof ids, p->suite), "delugash_make");
 }
 
 /* Some streams begin at index 0, some shortly before the last of all indices, the others anywhere. */
@@ -40,7 +41,10 @@ static uint32_t starting_rollover(dice *d, unsigned number)
 void start_run(pair *p, uint64_t run)
 {
     p->run = run;
-    p->policy = run % 4;
+    /* Four policies of the first suite, and three with GCM. */
+    p->suite = run % 7 < 4 ? DELUGASH_SUITE_CM_HMAC : DELUGASH_SUITE_GCM;
+    p->policy = run % 7 % 4;
+    p->tag = p->suite == DELUGASH_SUITE_GCM ? 16 : 10;
     p->d.state = p->seed + (run << 32);
     make_sessions(p);
     /* Every page is written, so that the process does not grow later. */

@@ -5,8 +5,6 @@
 #include <stddef.h>
 #include <stdint.h>
 
-enum { TAG_LENGTH = 10 };
-
 typedef struct {
     size_t count;
     /* From one packet to the next. */

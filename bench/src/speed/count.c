@@ -13,13 +13,13 @@ size_t counted_protect(const engine *e, void *session, uint8_t *packet, size_t r
     return length;
 }
 
-void count_instructions(const engine *e, uint64_t policy, size_t n, size_t calls)
+void count_instructions(const engine *e, mode m, size_t n, size_t calls)
 {
-    batch b = make_batch(calls, n + TAG_LENGTH);
-    fill(b, policy, FIRST_SSRC, n, 0);
-    void *session = e->open(e, policy, SENDING, 1);
+    batch b = make_batch(calls, n + tag_of(m));
+    fill(b, m.policy, FIRST_SSRC, n, 0);
+    void *session = e->open(e, m, SENDING, 1);
     for (size_t i = 0; i < calls; i++)
-        if (counted_protect(e, session, packet_at(b, i), b.stride, n) != n + TAG_LENGTH)
+        if (counted_protect(e, session, packet_at(b, i), b.stride, n) != n + tag_of(m))
             give_up("protect refused a packet", e->name);
     e->close(e, session);
     free_batch(b);

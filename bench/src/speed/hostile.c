@@ -13,12 +13,13 @@ typedef struct {
     uint8_t *bytes;
     size_t n;
     size_t room;
+    size_t tag;
 } lure;
 
 typedef struct {
     const char *name;
     uint32_t number;
-    uint64_t policy;
+    mode m;
     /* The only length of the accepted packet beside it that makes sense, or 0. */
     size_t length;
     /* Makes the hostile packet out of an accepted one. */
@@ -42,7 +43,7 @@ static void far_behind(lure *l)
 /* An extension block in the clear that fills the packet. Under the mask it is the dearest of all: every stage before the tag has work to do. */
 static void all_elements(lure *l)
 {
-    size_t words = (l->n - TAG_LENGTH - 16) / 4;
+    size_t words = (l->n - l->tag - 16) / 4;
     l->bytes[0] |= 0x10;
     l->bytes[12] = 0xbe;
     l->bytes[13] = 0xde;
@@ -75,26 +76,34 @@ static void too_large_and_all_elements(lure *l)
     all_elements(l);
 }
 
+#define PLAIN {"0", DELUGASH_SUITE_CM_HMAC, DELUGASH_PLAIN}
+#define REQUIRED {"2", DELUGASH_SUITE_CM_HMAC, DELUGASH_CRYPTEX_REQUIRED}
+#define MASK {"3", DELUGASH_SUITE_CM_HMAC, DELUGASH_MASK}
+#define GCM {"gcm0", DELUGASH_SUITE_GCM, DELUGASH_PLAIN}
+
+/* With GCM the ones that a key is used for, and the last before: all others end in the same code for both suites. */
 static const kind kinds[] = {
-    {"LENGTH", DELUGASH_LENGTH, DELUGASH_PLAIN, 0, told_too_long},
-    {"SHORT", DELUGASH_SHORT, DELUGASH_PLAIN, 22, too_short},
-    {"VERSION", DELUGASH_VERSION, DELUGASH_PLAIN, 0, version_1},
-    {"HEADER", DELUGASH_HEADER, DELUGASH_PLAIN, 0, block_into_the_tag},
-    {"PROFILE", DELUGASH_PROFILE, DELUGASH_CRYPTEX_REQUIRED, 0, all_elements},
-    {"ELEMENT", DELUGASH_ELEMENT, DELUGASH_MASK, 0, last_element_too_long},
-    {"LARGE", DELUGASH_LARGE, DELUGASH_PLAIN, DELUGASH_MAX_PACKET, too_large},
-    {"LARGE", DELUGASH_LARGE, DELUGASH_MASK, DELUGASH_MAX_PACKET, too_large_and_all_elements},
-    {"STREAM", DELUGASH_STREAM, DELUGASH_PLAIN, 0, unknown_stream},
-    {"OLD", DELUGASH_OLD, DELUGASH_PLAIN, 0, far_behind},
-    {"REPEAT", DELUGASH_REPEAT, DELUGASH_PLAIN, 0, as_it_is},
-    {"TAG", DELUGASH_TAG, DELUGASH_PLAIN, 0, last_byte_of_tag},
-    {"TAG", DELUGASH_TAG, DELUGASH_MASK, 0, all_elements},
+    {"LENGTH", DELUGASH_LENGTH, PLAIN, 0, told_too_long},
+    {"SHORT", DELUGASH_SHORT, PLAIN, 22, too_short},
+    {"VERSION", DELUGASH_VERSION, PLAIN, 0, version_1},
+    {"HEADER", DELUGASH_HEADER, PLAIN, 0, block_into_the_tag},
+    {"PROFILE", DELUGASH_PROFILE, REQUIRED, 0, all_elements},
+    {"ELEMENT", DELUGASH_ELEMENT, MASK, 0, last_element_too_long},
+    {"LARGE", DELUGASH_LARGE, PLAIN, DELUGASH_MAX_PACKET, too_large},
+    {"LARGE", DELUGASH_LARGE, MASK, DELUGASH_MAX_PACKET, too_large_and_all_elements},
+    {"STREAM", DELUGASH_STREAM, PLAIN, 0, unknown_stream},
+    {"OLD", DELUGASH_OLD, PLAIN, 0, far_behind},
+    {"REPEAT", DELUGASH_REPEAT, PLAIN, 0, as_it_is},
+    {"REPEAT", DELUGASH_REPEAT, GCM, 0, as_it_is},
+    {"TAG", DELUGASH_TAG, PLAIN, 0, last_byte_of_tag},
+    {"TAG", DELUGASH_TAG, MASK, 0, all_elements},
+    {"TAG", DELUGASH_TAG, GCM, 0, last_byte_of_tag},
 };
 
-static void protected_packets(const engine *ours, uint64_t policy, batch b, size_t n, size_t first)
+static void protected_packets(const engine *ours, mode m, batch b, size_t n, size_t first)
 {
-    fill(b, policy, FIRST_SSRC + MOST_STREAMS - 1, n - TAG_LENGTH, first);
-    pass_fresh(ours, policy, SENDING, MOST_STREAMS, b, n - TAG_LENGTH);
+    fill(b, m.policy, FIRST_SSRC + MOST_STREAMS - 1, n - tag_of(m), first);
+    pass_fresh(ours, m, SENDING, MOST_STREAMS, b, n - tag_of(m));
 }
 
 static double time_refusals(const kind *k, uint64_t *session, const lure *l, size_t calls)
@@ -113,12 +122,12 @@ static double time_refusals(const kind *k, uint64_t *session, const lure *l, siz
 static double hostile_round(const engine *ours, const kind *k, size_t n, size_t calls, size_t *told)
 {
     uint8_t bytes[DATAGRAM] = {0};
-    lure l = {bytes, n, sizeof bytes};
+    lure l = {bytes, n, sizeof bytes, tag_of(k->m)};
     batch one = make_batch(1, n);
-    void *session = ours->open(ours, k->policy, RECEIVING, MOST_STREAMS);
-    protected_packets(ours, k->policy, one, n, HIGHEST);
+    void *session = ours->open(ours, k->m, RECEIVING, MOST_STREAMS);
+    protected_packets(ours, k->m, one, n, HIGHEST);
     memcpy(bytes, packet_at(one, 0), n);
-    pass(ours, RECEIVING, session, one, n);
+    pass(ours, k->m, RECEIVING, session, one, n);
     /* The tag is only looked at where the packet is new. */
     if (k->number == DELUGASH_TAG)
         bytes[3]++;
@@ -130,10 +139,10 @@ static double hostile_round(const engine *ours, const kind *k, size_t n, size_t 
     return time;
 }
 
-static double accepted_round(const engine *ours, uint64_t policy, size_t n, batch b, size_t round)
+static double accepted_round(const engine *ours, mode m, size_t n, batch b, size_t round)
 {
-    protected_packets(ours, policy, b, n, round * b.count);
-    return pass_fresh(ours, policy, RECEIVING, MOST_STREAMS, b, n);
+    protected_packets(ours, m, b, n, round * b.count);
+    return pass_fresh(ours, m, RECEIVING, MOST_STREAMS, b, n);
 }
 
 static void run_kind(const kind *k, size_t n, effort e)
@@ -143,12 +152,12 @@ static void run_kind(const kind *k, size_t n, effort e)
     engine ours = our_engine();
     batch b = make_batch(e.packets, n);
     for (size_t r = 0; r < e.rounds; r++) {
-        accepted[r] = accepted_round(&ours, k->policy, n, b, r);
+        accepted[r] = accepted_round(&ours, k->m, n, b, r);
         refused[r] = hostile_round(&ours, k, n, e.packets, &told);
         ratios[r] = refused[r] / accepted[r];
     }
     spread ratio = spread_of(ratios, e.rounds);
-    printf("hostile %s %d %zu %zu  %.1f  %.1f  %.4f %.4f %.4f\n", k->name, (int)k->policy, told, n, spread_of(refused, e.rounds).median,
+    printf("hostile %s %s %zu %zu  %.1f  %.1f  %.4f %.4f %.4f\n", k->name, k->m.name, told, n, spread_of(refused, e.rounds).median,
            spread_of(accepted, e.rounds).median, ratio.median, ratio.low, ratio.high);
     fflush(stdout);
     free_batch(b);

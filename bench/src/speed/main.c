@@ -1,5 +1,6 @@
 /* speed measure ROUNDS PACKETS [NAME=FILE]...     every table; the words name builds of libsrtp to load
- * speed count POLICY BYTES CALLS [NAME=FILE]      calls of protect, by this library or the one that is named, to be counted from outside */
+ * speed gcm ROUNDS PACKETS [NAME=FILE]...         the lines with GCM alone, for builds that are slowed down from outside
+ * speed count MODE BYTES CALLS [NAME=FILE]        calls of protect, by this library or the one that is named, to be counted from outside */
 #include "engine.h"
 #include "tables.h"
 
@@ -29,29 +30,52 @@ static engine load(char *word)
 #endif
 }
 
-static void measure(const engine *engines, size_t count, effort e)
+static mode mode_of(const char *word)
+{
+    for (size_t i = 0; i < MODES; i++)
+        if (strcmp(word, modes[i].name) == 0)
+            return modes[i];
+    give_up("not a mode", word);
+}
+
+static void print_engines(const engine *engines, size_t count)
 {
     for (size_t i = 0; i < count; i++)
         printf("engine %s %s\n", engines[i].name, engines[i].about);
+}
+
+static void measure(const engine *engines, size_t count, effort e)
+{
+    print_engines(engines, count);
     printf("effort %zu %zu\n", e.rounds, e.packets);
-    compare(engines, count, e);
+    compare(engines, count, 0, e);
     grow(&engines[0], e);
     refuse(e);
+}
+
+/* This library is measured again, so that a ratio is of one round here too. */
+static void measure_gcm(const engine *engines, size_t count, effort e)
+{
+    for (size_t i = 1; i < count; i++)
+        if (!engines[i].has_gcm)
+            give_up("has no GCM", engines[i].name);
+    print_engines(engines + 1, count - 1);
+    compare(engines, count, FIRST_GCM, e);
 }
 
 int main(int argc, char **argv)
 {
     engine engines[MOST_ENGINES] = {our_engine()};
     size_t count = 1;
-    int counts = argc > 1 && strcmp(argv[1], "count") == 0;
+    int counts = argc > 1 && strcmp(argv[1], "count") == 0, gcm = argc > 1 && strcmp(argv[1], "gcm") == 0;
     int numbers = counts ? 3 : 2;
-    if (argc < 2 + numbers || argc - 2 - numbers > MOST_ENGINES - 1 || (!counts && strcmp(argv[1], "measure") != 0))
-        give_up("usage", "speed measure ROUNDS PACKETS [NAME=FILE]... or speed count POLICY BYTES CALLS [NAME=FILE]");
+    if (argc < 2 + numbers || argc - 2 - numbers > MOST_ENGINES - 1 || (!counts && !gcm && strcmp(argv[1], "measure") != 0))
+        give_up("usage", "speed measure ROUNDS PACKETS [NAME=FILE]..., speed gcm .. or speed count MODE BYTES CALLS [NAME=FILE]");
     for (int i = 2 + numbers; i < argc; i++)
         engines[count++] = load(argv[i]);
     if (counts)
-        count_instructions(&engines[count - 1], number(argv[2], 0, 3), number(argv[3], 40, 2034), number(argv[4], 1, 30000));
+        count_instructions(&engines[count - 1], mode_of(argv[2]), number(argv[3], 40, 2028), number(argv[4], 1, 30000));
     else
-        measure(engines, count, (effort){number(argv[2], 1, MOST_ROUNDS), number(argv[3], 1, 30000)});
+        (gcm ? measure_gcm : measure)(engines, count, (effort){number(argv[2], 1, MOST_ROUNDS), number(argv[3], 1, 30000)});
     return 0;
 }

@@ -3,13 +3,13 @@
 
 #include <stdlib.h>
 
-static void *open_session(const engine *self, uint64_t policy, way w, unsigned streams)
+static void *open_session(const engine *self, mode m, way w, unsigned streams)
 {
     size_t words = delugash_size();
     uint64_t *session = calloc(words, sizeof *session);
     if (session == NULL)
         give_up("no memory", self->name);
-    if (delugash_make(session, words, master_key, KEY_LENGTH, master_salt, SALT_LENGTH, policy, listed_ids, LISTED) != 0)
+    if (delugash_make(session, words, master_key, KEY_LENGTH, master_salt, salt_of(m), m.policy, listed_ids, LISTED, m.suite) != 0)
         give_up("no session", self->name);
     for (unsigned i = 0; i < streams; i++)
         if (delugash_add(session, words, FIRST_SSRC + i, w, 0) != 0)
@@ -37,5 +37,5 @@ static void close_session(const engine *self, void *session)
 
 engine our_engine(void)
 {
-    return (engine){"ours", "this library", NULL, open_session, protect, unprotect, close_session};
+    return (engine){"ours", "this library", 1, NULL, open_session, protect, unprotect, close_session};
 }

@@ -2,10 +2,10 @@
 
 #include "measure.h"
 
-double pass(const engine *e, way w, void *session, batch b, size_t n)
+double pass(const engine *e, mode m, way w, void *session, batch b, size_t n)
 {
     size_t (*call)(const engine *, void *, uint8_t *, size_t, size_t) = w == SENDING ? e->protect : e->unprotect;
-    size_t expected = w == SENDING ? n + TAG_LENGTH : n - TAG_LENGTH;
+    size_t expected = w == SENDING ? n + tag_of(m) : n - tag_of(m);
     size_t wrong = 0;
     double start = thread_time();
     for (size_t i = 0; i < b.count; i++)
@@ -16,10 +16,10 @@ double pass(const engine *e, way w, void *session, batch b, size_t n)
     return (end - start) / (double)b.count;
 }
 
-double pass_fresh(const engine *e, uint64_t policy, way w, unsigned streams, batch b, size_t n)
+double pass_fresh(const engine *e, mode m, way w, unsigned streams, batch b, size_t n)
 {
-    void *session = e->open(e, policy, w, streams);
-    double time = pass(e, w, session, b, n);
+    void *session = e->open(e, m, w, streams);
+    double time = pass(e, m, w, session, b, n);
     e->close(e, session);
     return time;
 }

@@ -14,45 +14,59 @@ typedef struct {
     srtp_err_status_t (*protect)(srtp_t, void *, int *);
     srtp_err_status_t (*unprotect)(srtp_t, void *, int *);
     srtp_err_status_t (*dealloc)(srtp_t);
-    void (*suite)(srtp_crypto_policy_t *);
+    void (*first_suite)(srtp_crypto_policy_t *);
+    void (*gcm)(srtp_crypto_policy_t *);
     const char *(*version)(void);
 } calls;
 
 /* Cryptex is not in libsrtp 2.5.0: beside policy 1 it does plain SRTP. */
-static void set_policy(const calls *c, srtp_policy_t *p, uint64_t policy, unsigned char *key, int *ids)
+static void set_policy(const calls *c, srtp_policy_t *p, mode m, unsigned char *key, int *ids)
 {
+    void (*suite)(srtp_crypto_policy_t *) = m.suite == DELUGASH_SUITE_GCM ? c->gcm : c->first_suite;
     memset(p, 0, sizeof *p);
-    c->suite(&p->rtp);
-    c->suite(&p->rtcp);
+    suite(&p->rtp);
+    suite(&p->rtcp);
     p->key = key;
     p->window_size = 64;
-    if (policy == DELUGASH_MASK) {
+    if (m.policy == DELUGASH_MASK) {
         p->enc_xtn_hdr = ids;
         p->enc_xtn_hdr_count = LISTED;
     }
 }
 
-static void *open_session(const engine *self, uint64_t policy, way w, unsigned streams)
+/* A session, or NULL where libsrtp refuses it. */
+static srtp_t create(const calls *c, mode m, unsigned streams)
 {
-    (void)w;
-    const calls *c = self->calls;
-    unsigned char key[KEY_LENGTH + SALT_LENGTH];
+    unsigned char key[KEY_LENGTH + LONGEST_SALT];
     int ids[LISTED];
     srtp_policy_t policies[MOST_STREAMS];
     memcpy(key, master_key, KEY_LENGTH);
-    memcpy(key + KEY_LENGTH, master_salt, SALT_LENGTH);
+    memcpy(key + KEY_LENGTH, master_salt, LONGEST_SALT);
     for (unsigned i = 0; i < LISTED; i++)
         ids[i] = listed_ids[i];
     for (unsigned i = 0; i < streams; i++) {
-        set_policy(c, &policies[i], policy, key, ids);
+        set_policy(c, &policies[i], m, key, ids);
         policies[i].ssrc.type = ssrc_specific;
         policies[i].ssrc.value = FIRST_SSRC + i;
         policies[i].next = i + 1 < streams ? &policies[i + 1] : NULL;
     }
     srtp_t session;
-    if (c->create(&session, policies) != srtp_err_status_ok)
+    return c->create(&session, policies) == srtp_err_status_ok ? session : NULL;
+}
+
+static void *open_session(const engine *self, mode m, way w, unsigned streams)
+{
+    (void)w;
+    srtp_t session = create(self->calls, m, streams);
+    if (session == NULL)
         give_up("no session", self->name);
     return session;
+}
+
+static int has_gcm(const calls *c)
+{
+    srtp_t session = create(c, modes[FIRST_GCM], 1);
+    return session != NULL && c->dealloc(session) == srtp_err_status_ok;
 }
 
 static size_t protect(const engine *self, void *session, uint8_t *packet, size_t room, size_t n)
@@ -97,9 +111,10 @@ engine peer_engine(const char *name, const char *file)
     look_up(library, "srtp_protect", &c->protect);
     look_up(library, "srtp_unprotect", &c->unprotect);
     look_up(library, "srtp_dealloc", &c->dealloc);
-    look_up(library, "srtp_crypto_policy_set_rtp_default", &c->suite);
+    look_up(library, "srtp_crypto_policy_set_rtp_default", &c->first_suite);
+    look_up(library, "srtp_crypto_policy_set_aes_gcm_128_16_auth", &c->gcm);
     look_up(library, "srtp_get_version_string", &c->version);
     if (c->init() != srtp_err_status_ok)
         give_up("cannot start", name);
-    return (engine){name, c->version(), c, open_session, protect, unprotect, close_session};
+    return (engine){name, c->version(), has_gcm(c), c, open_session, protect, unprotect, close_session};
 }

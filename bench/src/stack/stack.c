@@ -1,5 +1,5 @@
 /* The most stack that each call of the library needs. A call runs on a stack of its own, which was filled with a pattern and is searched afterwards for the last
- * byte that changed; what an empty call leaves there is taken off. A line for each call: its name, what it is for, the bytes. */
+ * byte that changed; what an empty call leaves there is taken off. A line for each suite and policy: their numbers, and the bytes of each call. */
 #define _XOPEN_SOURCE 600
 #include "delugash.h"
 
@@ -9,14 +9,15 @@
 #include <string.h>
 #include <ucontext.h>
 
-enum { STACK = 1 << 16, LARGEST = 2034, SSRC = 0x5eed0001, ID = 3 };
+enum { STACK = 1 << 16, SSRC = 0x5eed0001, ID = 3 };
 
 static const uint8_t key[16] = {1}, salt[14] = {2}, ids[3] = {1, ID, 5};
 
 /* What the call under measurement is given, and the number that it gave. */
 static struct {
     uint64_t sender[DELUGASH_WORDS], receiver[DELUGASH_WORDS], policy;
-    uint8_t buf[2048];
+    uint32_t suite;
+    uint8_t buf[DELUGASH_MAX_PACKET];
     size_t n;
     uint32_t number;
     size_t length;
@@ -30,9 +31,15 @@ static void nothing(void)
     at.number = DELUGASH_OK;
 }
 
+static uint32_t make_session(uint64_t *session)
+{
+    size_t salt_length = at.suite == DELUGASH_SUITE_GCM ? 12 : 14;
+    return delugash_make(session, DELUGASH_WORDS, key, sizeof key, salt, salt_length, at.policy, ids, sizeof ids, at.suite);
+}
+
 static void make(void)
 {
-    at.number = delugash_make(at.sender, DELUGASH_WORDS, key, sizeof key, salt, sizeof salt, at.policy, ids, sizeof ids);
+    at.number = make_session(at.sender);
 }
 
 static void add(void)
@@ -139,11 +146,13 @@ static void pass(void)
 static void packets(void)
 {
     static const size_t payloads[] = {0, 20, 28, 40, 52, 100, 200, 1200, 1980, 2000};
+    /* a block that Cryptex adds, and the tag */
+    size_t largest = DELUGASH_MAX_PACKET - 4 - (at.suite == DELUGASH_SUITE_GCM ? 16 : 10);
     unsigned sequence = 0;
     for (size_t i = 0; i < sizeof payloads / sizeof *payloads; i++)
         for (size_t words = 0; words <= 480; words = words ? 2 * words + 1 : 1)
             for (unsigned contributors = 0; contributors <= 15; contributors += 5)
-                if (12 + 4 * contributors + (words ? 4 + 4 * words : 0) + payloads[i] <= LARGEST) {
+                if (12 + 4 * contributors + (words ? 4 + 4 * words : 0) + payloads[i] <= largest) {
                     craft(contributors, words, payloads[i], ++sequence);
                     pass();
                 }
@@ -151,17 +160,17 @@ static void packets(void)
 
 int main(void)
 {
-    for (at.policy = 0; at.policy <= DELUGASH_MASK; at.policy++) {
-        size_t makes = 0, adds = 0;
-        protects = unprotects = forged = repeated = finds = stretches = 0;
-        measure(make, DELUGASH_OK, &makes);
-        measure(add, DELUGASH_OK, &adds);
-        memcpy(at.receiver, at.sender, sizeof at.receiver);
-        if (delugash_make(at.receiver, DELUGASH_WORDS, key, sizeof key, salt, sizeof salt, at.policy, ids, sizeof ids) != DELUGASH_OK
-            || delugash_add(at.receiver, DELUGASH_WORDS, SSRC, DELUGASH_RECEIVING, 0) != DELUGASH_OK)
-            return 1;
-        packets();
-        printf("%u %zu %zu %zu %zu %zu %zu %zu %zu\n", (unsigned)at.policy, protects, unprotects, forged, repeated, makes, adds, finds, stretches);
-    }
+    for (at.suite = 0; at.suite <= DELUGASH_SUITE_GCM; at.suite++)
+        for (at.policy = 0; at.policy <= (at.suite == DELUGASH_SUITE_GCM ? DELUGASH_CRYPTEX_REQUIRED : DELUGASH_MASK); at.policy++) {
+            size_t makes = 0, adds = 0;
+            protects = unprotects = forged = repeated = finds = stretches = 0;
+            measure(make, DELUGASH_OK, &makes);
+            measure(add, DELUGASH_OK, &adds);
+            if (make_session(at.receiver) != DELUGASH_OK || delugash_add(at.receiver, DELUGASH_WORDS, SSRC, DELUGASH_RECEIVING, 0) != DELUGASH_OK)
+                return 1;
+            packets();
+            printf("%u %u %zu %zu %zu %zu %zu %zu %zu %zu\n", (unsigned)at.suite, (unsigned)at.policy, protects, unprotects, forged, repeated, makes, adds,
+                   finds, stretches);
+        }
     return 0;
 }

@@ -1,6 +1,6 @@
 //! Protects and unprotects the packet of RFC 9335's appendix A.1.1, and prints what changed.
 
-use delugash::{Error, Policy, Session, Way};
+use delugash::{Error, Policy, Session, Suite, Way};
 
 /// The bytes, and under them `^^` where one differs from the byte that stood there and `++` where none stood.
 fn show(name: &str, bytes: &[u8], beside: &[u8]) {
@@ -20,8 +20,8 @@ fn show(name: &str, bytes: &[u8], beside: &[u8]) {
 fn main() -> Result<(), Error> {
     let key = *b"\xe1\xf9\x7a\x0d\x3e\x01\x8b\xe0\xd6\x4f\xa3\x2c\x06\xde\x41\x39";
     let salt = *b"\x0e\xc6\x75\xad\x49\x8a\xfe\xeb\xb6\x96\x0b\x3a\xab\xe6";
-    let mut sender = Session::new(&key, &salt, Policy::Cryptex, &[])?;
-    let mut receiver = Session::new(&key, &salt, Policy::Cryptex, &[])?;
+    let mut sender = Session::new(&key, &salt, Policy::Cryptex, &[], Suite::CmHmac)?;
+    let mut receiver = Session::new(&key, &salt, Policy::Cryptex, &[], Suite::CmHmac)?;
     sender.add(0xcafebabe, Way::Sending, 0)?;
     receiver.add(0xcafebabe, Way::Receiving, 0)?;
 

@@ -28,6 +28,7 @@ extern "C" {
         policy: u64,
         ids: *const u8,
         ids_length: usize,
+        suite: u32,
     ) -> u32;
     pub fn delugash_add(session: *mut u64, words: usize, ssrc: u32, way: u32, rollover: u32) -> u32;
     pub fn delugash_protect(session: *mut u64, words: usize, buf: *mut u8, length: usize, n: usize) -> Answer;

@@ -34,9 +34,9 @@ pub enum Error {
     Repeat,
     /// 14: the authentication tag is wrong.
     Tag,
-    /// 15: the master key is not 16 bytes or the salt not 14; to add: the session is not made.
+    /// 15: the master key is not 16 bytes or the salt not as long as the suite's; to add: the session is not made.
     Keys,
-    /// 16: the policy is above 3.
+    /// 16: the suite has no such policy: [`Policy::Mask`](crate::Policy) with [`Suite::Gcm`](crate::Suite).
     Policy,
     /// 17: the SSRC is in the session already, either way.
     Twice,

@@ -1,15 +1,16 @@
 //! SRTP that is proved right, for Rust: plain SRTP (RFC 3711), Cryptex (RFC 9335) and encrypted header extension elements (RFC 6904), in the
-//! suite AES_CM_128_HMAC_SHA1_80.
+//! suite AES_CM_128_HMAC_SHA1_80; all but the last also in AEAD_AES_128_GCM (RFC 7714).
 //!
-//! A [`Session`] has a key and a policy, and up to 32 streams, each sent or received. Packets are protected and unprotected in the
+//! A [`Session`] has a key, a policy and a suite, and up to 32 streams, each sent or received. Packets are protected and unprotected in the
 //! caller's buffer. A call gives its result or an [`Error`], and an error leaves buffer and session exactly as they were.
 //!
 //! ```
-//! use delugash::{Policy, Session, Way};
+//! use delugash::{Policy, Session, Suite, Way};
 //!
-//! let (key, salt) = ([7u8; 16], [9u8; 14]);
-//! let mut sender = Session::new(&key, &salt, Policy::Cryptex, &[])?;
-//! let mut receiver = Session::new(&key, &salt, Policy::Cryptex, &[])?;
+//! // a salt is 12 bytes with this suite, and 14 with Suite::CmHmac
+//! let (key, salt) = ([7u8; 16], [9u8; 12]);
+//! let mut sender = Session::new(&key, &salt, Policy::Cryptex, &[], Suite::Gcm)?;
+//! let mut receiver = Session::new(&key, &salt, Policy::Cryptex, &[], Suite::Gcm)?;
 //! sender.add(0xcafebabe, Way::Sending, 0)?;
 //! receiver.add(0xcafebabe, Way::Receiving, 0)?;
 //!
@@ -32,8 +33,8 @@ use std::fmt;
 
 pub use error::Error;
 
-/// The most that protecting adds to a packet: a tag of ten bytes, and four where Cryptex adds an empty extension block.
-pub const ROOM: usize = 14;
+/// The most that protecting adds to a packet: a tag of 16 bytes with GCM, and four where Cryptex adds an empty extension block.
+pub const ROOM: usize = 20;
 
 /// How a session treats header extensions and contributors.
 #[derive(Clone, Copy, Debug, PartialEq, Eq, Hash)]
@@ -44,8 +45,35 @@ pub enum Policy {
     Cryptex = 1,
     /// Cryptex, and of packets with contributors or an extension none but Cryptex ones are taken.
     CryptexRequired = 2,
-    /// The elements with the session's ids are encrypted under the mask of RFC 6904.
+    /// The elements with the session's ids are encrypted under the mask of RFC 6904. Not with [`Suite::Gcm`].
     Mask = 3,
+}
+
+/// What encrypts and authenticates.
+#[derive(Clone, Copy, Debug, PartialEq, Eq, Hash)]
+pub enum Suite {
+    /// AES_CM_128_HMAC_SHA1_80 (RFC 3711): a master salt of 14 bytes, a tag of 10.
+    CmHmac = 0,
+    /// AEAD_AES_128_GCM (RFC 7714): a master salt of 12 bytes, a tag of 16.
+    Gcm = 1,
+}
+
+impl Suite {
+    /// The bytes of a master salt.
+    pub const fn salt_length(self) -> usize {
+        match self {
+            Suite::CmHmac => 14,
+            Suite::Gcm => 12,
+        }
+    }
+
+    /// The bytes of a tag: what a protected packet is longer by, but for a block that Cryptex adds.
+    pub const fn tag_length(self) -> usize {
+        match self {
+            Suite::CmHmac => 10,
+            Suite::Gcm => 16,
+        }
+    }
 }
 
 /// What a stream of a session is for.
@@ -55,7 +83,8 @@ pub enum Way {
     Receiving = 1,
 }
 
-/// A session: keys, a policy, and its streams. It can be moved, cloned, and sent to another thread.
+/// A session: keys, a policy, a suite, and its streams. It can be moved, cloned, and sent to another thread; but of a session and its clone only one
+/// may go on sending ([`Session::new`] says why).
 #[derive(Clone)]
 pub struct Session {
     words: Vec<u64>,
@@ -69,8 +98,15 @@ impl fmt::Debug for Session {
 }
 
 impl Session {
-    /// A session without streams. `ids` are the elements that [`Policy::Mask`] hides; zeros and repeats are ignored.
-    pub fn new(key: &[u8], salt: &[u8], policy: Policy, ids: &[u8]) -> Result<Session, Error> {
+    /// A session without streams, from a master key of 16 bytes and a master salt of [`Suite::salt_length`]: of other lengths they are
+    /// [`Error::Keys`]. `ids` are the elements that [`Policy::Mask`] hides; zeros and repeats are ignored. With [`Suite::Gcm`] that policy is
+    /// [`Error::Policy`].
+    ///
+    /// **Under one master key, no SSRC may send two different packets with the same index.** A session sees to this for what it sends itself, and knows
+    /// nothing of others. So two sessions of one master key must not both send an SSRC from the same rollover counter: not one at each end, not one after a
+    /// restart, not a clone beside the session. Whoever catches two such packets has the XOR of what they encrypt without any key. With [`Suite::Gcm`] he
+    /// gets more: the two tags mostly give him the key that authenticates, and packets that he changes, of any stream under that master key, are taken.
+    pub fn new(key: &[u8], salt: &[u8], policy: Policy, ids: &[u8], suite: Suite) -> Result<Session, Error> {
         // SAFETY: no arguments.
         let mut words = vec![0u64; unsafe { border::delugash_size() }];
         // SAFETY: each pointer comes with the length of its slice, and no two of them overlap, since `words` is this function's own.
@@ -85,6 +121,7 @@ impl Session {
                 policy as u64,
                 ids.as_ptr(),
                 ids.len(),
+                suite as u32,
             )
         };
         Error::check(number).map(|()| Session { words })
@@ -140,7 +177,8 @@ pub fn find(packet: &[u8], id: u8) -> Result<&[u8], Error> {
 }
 
 /// The keystream alone, for who encrypts a packet's front and back in separate moments: XORs the AES-CM keystream of RFC 3711 (4.1.1) onto the buffer, from byte
-/// `start` of it on. The same call decrypts. Two stretches that meet give what the joined one gives, wherever the joined one is not refused.
+/// `start` of it on. The same call decrypts. Two stretches that meet give what the joined one gives, wherever the joined one is not refused. It is the keystream of
+/// [`Suite::CmHmac`] alone: a packet under GCM cannot be put together from stretches.
 ///
 /// Key and salt are those that RFC 3711 (4.3) derives for the session, never the master ones that [`Session::new`] takes: their keystream is the session keys. The index is
 /// the packet's, rollover counter * 65,536 + sequence number, below 2^48; a larger one gives another SSRC's keystream, so never pass one. `start` is 0 for the first byte that is

@@ -1,16 +1,30 @@
-//! Published packets both ways, published keystream in stretches, each refusal that a safe call can meet, what a refusal leaves, and what is shown of a session.
+//! Published packets of both suites both ways, published keystream in stretches, each refusal that a safe call can meet, what a refusal leaves, and what is shown of a session.
 
-use delugash::{find, stretch, Error, Policy, Session, Way};
+use delugash::{find, stretch, Error, Policy, Session, Suite, Way};
 
 /// The master key and salt of RFC 3711's B.3, which RFC 9335's appendix takes.
 const KEY: [u8; 16] = *b"\xe1\xf9\x7a\x0d\x3e\x01\x8b\xe0\xd6\x4f\xa3\x2c\x06\xde\x41\x39";
 const SALT: [u8; 14] = *b"\x0e\xc6\x75\xad\x49\x8a\xfe\xeb\xb6\x96\x0b\x3a\xab\xe6";
 const SSRC: u32 = 0xcafebabe;
 
-fn session(policy: Policy, way: Way) -> Session {
-    let mut made = Session::new(&KEY, &SALT, policy, &[1, 3, 4]).expect("a session");
+/// The master key and salt of RFC 9335's A.2.
+const GCM_KEY: [u8; 16] = *b"\x00\x01\x02\x03\x04\x05\x06\x07\x08\x09\x0a\x0b\x0c\x0d\x0e\x0f";
+const GCM_SALT: [u8; 12] = *b"\xa0\xa1\xa2\xa3\xa4\xa5\xa6\xa7\xa8\xa9\xaa\xab";
+
+const SUITES: [Suite; 2] = [Suite::CmHmac, Suite::Gcm];
+
+fn session_of(suite: Suite, policy: Policy, way: Way) -> Session {
+    let (key, salt) = match suite {
+        Suite::CmHmac => (&KEY, &SALT[..]),
+        Suite::Gcm => (&GCM_KEY, &GCM_SALT[..]),
+    };
+    let mut made = Session::new(key, salt, policy, &[1, 3, 4], suite).expect("a session");
     made.add(SSRC, way, 0).expect("a stream");
     made
+}
+
+fn session(policy: Policy, way: Way) -> Session {
+    session_of(Suite::CmHmac, policy, way)
 }
 
 fn hex(text: &str) -> Vec<u8> {
@@ -75,6 +89,170 @@ fn published_packets_both_ways() {
     }
 }
 
+/// RFC 9335, A.2.1 to A.2.6: packet, and the protected packet.
+const GCM_PUBLISHED: [(&str, &str); 6] = [
+    (
+        "900f1235decafbadcafebabebede000151000200abababababababababababababababab",
+        "900f1235decafbadcafebabec0de000139972dc9572c4d99e8fc355de743fb2e94f9d8ff54e72f4193bbc5c74ffab0fa9fa0fbeb",
+    ),
+    (
+        "900f1236decafbadcafebabe1000000105020002abababababababababababababababab",
+        "900f1236decafbadcafebabec2de0001bb75a4c545cd1f413bdb7daa2b1e3263de313667c963249081b35a65f5cb6c88b394235f",
+    ),
+    (
+        "920f1238decafbadcafebabe0001e2400000b26ebede000151000200abababababababababababababababab",
+        "920f1238decafbadcafebabe63bbccc4a7f695c4c0de00018ad7c71fac70a80c92866b4c6ba98546ef913586e95ffaaffe956885bb0647a8bc094ac8",
+    ),
+    (
+        "920f1239decafbadcafebabe0001e2400000b26e1000000105020002abababababababababababababababab",
+        "920f1239decafbadcafebabe3680524f8d312b00c2de0001c78d120038422bc111a7187a18246f980c059cc6bc9df8b626394eca344e4b05d80fea83",
+    ),
+    (
+        "920f123adecafbadcafebabe0001e2400000b26ebede0000abababababababababababababababab",
+        "920f123adecafbadcafebabe15b6bb4337906fffc0de0000b7b964537a2b03ab7ba5389ce93317126b5d974df30c6884dcb651c5e120c1da",
+    ),
+    (
+        "920f123bdecafbadcafebabe0001e2400000b26e10000000abababababababababababababababab",
+        "920f123bdecafbadcafebabedcb38c9e48bf95f4c2de000061ee432cf920317076613258d3ce4236c06ac429681ad08413512dc98b5207d8",
+    ),
+];
+
+/// A packet without contributors and extension under the same key and salt, as libsrtp sends it.
+const GCM_BARE: (&str, &str) = (
+    "800f1234decafbadcafebabeabababababababababababababababab",
+    "800f1234decafbadcafebabec5002ede04cfdd2eb91159e0880aa06ed2976826f796b201df3131a127e8a392",
+);
+
+/// One after another through the same two sessions.
+#[test]
+fn published_gcm_packets_both_ways() {
+    for policy in [Policy::Cryptex, Policy::CryptexRequired] {
+        let mut sender = session_of(Suite::Gcm, policy, Way::Sending);
+        let mut receiver = session_of(Suite::Gcm, policy, Way::Receiving);
+        for (plain, wire) in [GCM_BARE].into_iter().chain(GCM_PUBLISHED) {
+            let (plain, wire) = (hex(plain), hex(wire));
+            let mut buf = plain.clone();
+            buf.resize(plain.len() + delugash::ROOM, 0x55);
+            assert_eq!(sender.protect(&mut buf, plain.len()), Ok(wire.len()));
+            assert_eq!(buf[..wire.len()], wire);
+            assert_eq!(receiver.unprotect(&mut buf, wire.len()), Ok(plain.len()));
+            assert_eq!(buf[..plain.len()], plain);
+            assert_eq!(buf[plain.len()..wire.len()], wire[plain.len()..], "the tag stays");
+            assert!(
+                buf[wire.len()..].iter().all(|b| *b == 0x55),
+                "the bytes after the packet stay"
+            );
+            buf[..wire.len()].copy_from_slice(&wire);
+            assert_eq!(receiver.unprotect(&mut buf, wire.len()), Err(Error::Repeat));
+        }
+    }
+    let mut plain = hex(GCM_BARE.0);
+    plain.resize(44, 0);
+    assert_eq!(
+        session_of(Suite::Gcm, Policy::Plain, Way::Sending).protect(&mut plain, 28),
+        Ok(44)
+    );
+    assert_eq!(
+        plain,
+        hex(GCM_BARE.1),
+        "without anything to hide, policy 0 sends the same"
+    );
+}
+
+/// A wrong bit anywhere is refused and changes nothing: the right packet is taken after all of them.
+#[test]
+fn every_bit_counts() {
+    let published = [(Suite::CmHmac, PUBLISHED[2].2), (Suite::CmHmac, PUBLISHED[5].2)]
+        .into_iter()
+        .chain(GCM_PUBLISHED.map(|(_, wire)| (Suite::Gcm, wire)));
+    for (suite, wire) in published {
+        let wire = hex(wire);
+        let mut receiver = session_of(suite, Policy::Cryptex, Way::Receiving);
+        for bit in 0..8 * wire.len() {
+            let mut forged = wire.clone();
+            forged[bit / 8] ^= 1 << (bit % 8);
+            let mut buf = forged.clone();
+            let answer = receiver.unprotect(&mut buf, wire.len());
+            assert!(answer.is_err(), "bit {bit}");
+            if bit / 8 >= wire.len() - suite.tag_length() {
+                assert_eq!(answer, Err(Error::Tag), "bit {bit}");
+            }
+            assert_eq!(buf, forged, "a refusal leaves the buffer");
+        }
+        let mut buf = wire.clone();
+        assert_eq!(
+            receiver.unprotect(&mut buf, wire.len()),
+            Ok(wire.len() - suite.tag_length())
+        );
+    }
+}
+
+/// A packet of zeros with this first byte, in a buffer of this length.
+fn zeros(first: u8, length: usize) -> Vec<u8> {
+    let mut buf = vec![0; length];
+    buf[0] = first;
+    buf[8..12].copy_from_slice(&SSRC.to_be_bytes());
+    buf
+}
+
+#[test]
+fn limits_follow_the_suite() {
+    for suite in SUITES {
+        let tag = suite.tag_length();
+        let sent = |policy: Policy, first: u8, n: usize, room: usize| {
+            session_of(suite, policy, Way::Sending).protect(&mut zeros(first, room), n)
+        };
+        // without and with the block that Cryptex adds beside contributors
+        for (first, growth) in [(0x80, tag), (0x81, tag + 4)] {
+            assert!(growth <= delugash::ROOM);
+            assert_eq!(sent(Policy::Cryptex, first, 100, 100 + growth), Ok(100 + growth));
+            assert_eq!(sent(Policy::Cryptex, first, 100, 99 + growth), Err(Error::Room));
+            assert_eq!(sent(Policy::Cryptex, first, 2048 - growth, 2048), Ok(2048));
+            assert_eq!(sent(Policy::Cryptex, first, 2049 - growth, 4096), Err(Error::Large));
+        }
+        // one contributor and no payload: 16 bytes and the tag
+        let mut buf = zeros(0x81, 16 + tag);
+        assert_eq!(
+            session_of(suite, Policy::Plain, Way::Sending).protect(&mut buf, 16),
+            Ok(16 + tag)
+        );
+        let mut receiver = session_of(suite, Policy::Plain, Way::Receiving);
+        assert_eq!(receiver.unprotect(&mut buf, 11 + tag), Err(Error::Short));
+        assert_eq!(receiver.unprotect(&mut buf, 12 + tag), Err(Error::Header));
+        assert_eq!(receiver.unprotect(&mut buf, 15 + tag), Err(Error::Header));
+        assert_eq!(receiver.unprotect(&mut buf, 16 + tag), Ok(16));
+        assert_eq!(receiver.unprotect(&mut zeros(0x80, 2049), 2049), Err(Error::Large));
+        assert_eq!(receiver.unprotect(&mut zeros(0x80, 2049), 2048), Err(Error::Repeat));
+    }
+    assert_eq!(delugash::ROOM, Suite::Gcm.tag_length() + 4);
+}
+
+/// Also where both derive the same cipher key: the first suite's salt is GCM's and two zeros.
+#[test]
+fn crossed_suites_are_refused() {
+    let mut longer = [0; 14];
+    longer[..12].copy_from_slice(&GCM_SALT);
+    let made = |suite: Suite, way: Way| {
+        let salt = &longer[..suite.salt_length()];
+        let mut made = Session::new(&GCM_KEY, salt, Policy::Cryptex, &[], suite).expect("a session");
+        made.add(SSRC, way, 0).expect("a stream");
+        made
+    };
+    for (suite, other) in [(Suite::CmHmac, Suite::Gcm), (Suite::Gcm, Suite::CmHmac)] {
+        let plain = hex(GCM_PUBLISHED[2].0);
+        let mut buf = plain.clone();
+        buf.resize(plain.len() + delugash::ROOM, 0);
+        let sent = made(suite, Way::Sending)
+            .protect(&mut buf, plain.len())
+            .expect("protected");
+        let wire = buf.clone();
+        assert_eq!(made(other, Way::Receiving).unprotect(&mut buf, sent), Err(Error::Tag));
+        assert_eq!(buf, wire, "a refusal leaves the buffer");
+        assert_eq!(made(suite, Way::Receiving).unprotect(&mut buf, sent), Ok(plain.len()));
+        assert_eq!(buf[..plain.len()], plain);
+    }
+}
+
 #[test]
 fn a_packet_is_given_back_once() {
     let (_, _, wire) = PUBLISHED[0];
@@ -94,10 +272,24 @@ fn a_packet_is_given_back_once() {
 
 #[test]
 fn refusals_of_making_and_adding() {
-    let refused = |key: &[u8], salt: &[u8]| Session::new(key, salt, Policy::Plain, &[]).err();
-    assert_eq!(refused(&KEY[..15], &SALT), Some(Error::Keys));
-    assert_eq!(refused(&KEY, &SALT[..13]), Some(Error::Keys));
-    assert_eq!(refused(&[], &[]), Some(Error::Keys));
+    for suite in SUITES {
+        let refused = |key: usize, salt: usize, policy: Policy| {
+            Session::new(&[0; 17][..key], &[0; 15][..salt], policy, &[], suite).err()
+        };
+        for key in [0, 15, 16, 17] {
+            for salt in [0, 11, 12, 13, 14, 15] {
+                let right = key == 16 && salt == suite.salt_length();
+                assert_eq!(
+                    refused(key, salt, Policy::Plain),
+                    (!right).then_some(Error::Keys),
+                    "{suite:?}, key of {key}, salt of {salt}"
+                );
+            }
+        }
+        let mask = (suite == Suite::Gcm).then_some(Error::Policy);
+        assert_eq!(refused(16, suite.salt_length(), Policy::Mask), mask);
+        assert_eq!(refused(16, 13, Policy::Mask), Some(Error::Keys), "this comes before");
+    }
     let mut made = session(Policy::Plain, Way::Sending);
     assert_eq!(made.add(SSRC, Way::Receiving, 0), Err(Error::Twice));
     for ssrc in 0..31 {
@@ -324,7 +516,7 @@ fn refusals_of_indices() {
         buf[2..4].copy_from_slice(&sequence.to_be_bytes());
         buf
     };
-    let mut sender = Session::new(&KEY, &SALT, Policy::Plain, &[]).expect("a session");
+    let mut sender = Session::new(&KEY, &SALT, Policy::Plain, &[], Suite::CmHmac).expect("a session");
     let mut receiver = sender.clone();
     sender.add(SSRC, Way::Sending, u32::MAX).expect("a stream");
     receiver.add(SSRC, Way::Receiving, u32::MAX).expect("a stream");

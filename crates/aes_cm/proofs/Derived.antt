@@ -4,7 +4,7 @@ use mathlib.Core.List.{List, _∷_}
 use Prim.Native.Nat.{ℕ, zero, suc, _+_, _≤_}
 use native.Mathlib.Omega.{arith}
 use lib.Bits.{xor-zero-l}
-use lib.ListN.{length, replicate}
+use lib.ListN.{length, take, replicate}
 use Rattle.bits.specs.Lists.{tabulate}
 use Rattle.bits.specs.Xor.{xorPad}
 use Rattle.bits.proofs.Lists.{length-tabulate}
@@ -26,6 +26,16 @@ unfolding derivedOf
 derived-is key salt label l m z h e =
     let stream = keystreamOf key (saltFor salt label) 0 0 in
     e ∙ served-bytes stream 0 l (omega arith) ∙ pad-ext (λ k. stream (0 + k)) stream l (λ i b. ap stream (omega arith)) ∙ ap (xorPad stream) z ∙ onto-zeros (length l) stream
+
+tabulate-front : {A : Type 0} (k n : ℕ) (f : ℕ → A) → k ≤ n → take k (tabulate n f) ≡ tabulate k f
+tabulate-front zero n f h = refl
+tabulate-front (suc k) zero f h = absurd (omega arith)
+tabulate-front (suc k) (suc n) f h = ap (λ (l : List _). f 0 ∷ l) (tabulate-front k n (λ i. f (suc i)) (omega arith))
+
+-- a shorter key is the front of a longer one
+pub derived-front : (key salt : List ℕ) (label k n : ℕ) → k ≤ n → take k (derivedOf key salt label n) ≡ derivedOf key salt label k
+unfolding derivedOf
+derived-front key salt label k n h = tabulate-front k n (keystreamOf key (saltFor salt label) 0 0) h
 
 pub derived-length : (key salt : List ℕ) (label n : ℕ) → length (derivedOf key salt label n) ≡ n
 unfolding derivedOf

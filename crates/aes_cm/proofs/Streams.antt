@@ -1,4 +1,4 @@
--- A portion as two stretches, under the keystream of a key, a salt, an SSRC and an index.
+-- A portion as two stretches, under any keystream and from any byte of it on.
 use mathlib.Core.Path.{_≡_, sym, ap, ap₂, _∙_}
 use mathlib.Core.List.{List, _++_}
 use Prim.Native.Nat.{ℕ, _+_, _-_, _≤_, _<_}
@@ -14,29 +14,33 @@ use Rattle.aes_cm.proofs.Portions.{before-first, in-first, in-gap, past
 use Rattle.stretches.proofs.Stretches.{at-before, at-past, at-in, pad-join, stretch-done}
 use Rattle.stretches.proofs.Parts.{part-length, stretch-back}
 
--- a portion is two stretches
-module _ (first stop rest : ℕ) (ks : ℕ → ℕ) (up : first ≤ stop) (on : stop ≤ rest) where
-  low : (i : ℕ) → i < stop → portionPad first stop rest ks i ≡ stretchPad first stop 0 ks i
+-- a portion is two stretches, of a keystream from byte o on
+module _ (first stop rest o : ℕ) (ks : ℕ → ℕ) (up : first ≤ stop) (on : stop ≤ rest) where
+  abbrev from : ℕ → ℕ
+  from k = ks (o + k)
+
+  low : (i : ℕ) → i < stop → portionPad first stop rest from i ≡ stretchPad first stop o ks i
   low i h =
       elim (decLt i first) [
-        | yes u ↦ before-first first stop rest ks i u ∙ sym (at-before first stop 0 ks i u)
-        | no u ↦ in-first first stop rest ks i (omega arith) h ∙ sym (at-in first stop 0 ks i (i - first) (omega arith) h (omega arith))
+        | yes u ↦ before-first first stop rest from i u ∙ sym (at-before first stop o ks i u)
+        | no u ↦ in-first first stop rest from i (omega arith) h ∙ sym (at-in first stop o ks i (o + (i - first)) (omega arith) h (omega arith))
       ]
 
-  high : (n i : ℕ) → stop ≤ i → i < n → portionPad first stop rest ks i ≡ stretchPad rest n (stop - first) ks i
+  high : (n i : ℕ) → stop ≤ i → i < n → portionPad first stop rest from i ≡ stretchPad rest n (o + (stop - first)) ks i
   high n i h b =
       elim (decLt i rest) [
-        | yes u ↦ in-gap first stop rest ks i (omega arith) h u ∙ sym (at-before rest n (stop - first) ks i u)
-        | no u ↦ past-gap first stop rest ks i (omega arith) h (omega arith)
-            ∙ sym (at-in rest n (stop - first) ks i (stop - first + (i - rest)) (omega arith) b (omega arith))
+        | yes u ↦ in-gap first stop rest from i (omega arith) h u ∙ sym (at-before rest n (o + (stop - first)) ks i u)
+        | no u ↦ past-gap first stop rest from i (omega arith) h (omega arith)
+            ∙ sym (at-in rest n (o + (stop - first)) ks i (o + (stop - first + (i - rest))) (omega arith) b (omega arith))
       ]
 
-  pub two-stretches : (l : List ℕ) → xorPad (stretchPad rest (length l) (stop - first) ks) (xorPad (stretchPad first stop 0 ks) l) ≡ xorPad (portionPad first stop rest ks) l
+  pub two-stretches : (l : List ℕ)
+      → xorPad (stretchPad rest (length l) (o + (stop - first)) ks) (xorPad (stretchPad first stop o ks) l) ≡ xorPad (portionPad first stop rest (λ k. ks (o + k))) l
   two-stretches l =
-      pad-join (stretchPad first stop 0 ks) (stretchPad rest (length l) (stop - first) ks) (portionPad first stop rest ks) l
+      pad-join (stretchPad first stop o ks) (stretchPad rest (length l) (o + (stop - first)) ks) (portionPad first stop rest from) l
       (λ i b. elim (decLt i stop) [
-        | yes u ↦ inr (at-before rest (length l) (stop - first) ks i (omega arith), sym (low i u))
-        | no u ↦ inl (at-past first stop 0 ks i (omega arith) (omega arith), sym (high (length l) i (omega arith) b))
+        | yes u ↦ inr (at-before rest (length l) (o + (stop - first)) ks i (omega arith), sym (low i u))
+        | no u ↦ inl (at-past first stop o ks i (omega arith) (omega arith), sym (high (length l) i (omega arith) b))
       ])
 
 -- the portion's pad depends on the keystream's first bytes only
@@ -57,39 +61,38 @@ portion-ext first stop rest m f g up on h i b =
     ]
 
 -- the two stretches of the code are the portion: each part lent, and back
-module _ (stream : ℕ → ℕ) (first stop rest : ℕ) (l : List ℕ) (up : first ≤ stop) (on : stop ≤ rest) (to : rest ≤ length l) (end : length l ≤ keystreamEnd) where
+module _ (stream : ℕ → ℕ) (o first stop rest : ℕ) (l : List ℕ) (up : first ≤ stop) (on : stop ≤ rest) (to : rest ≤ length l) (end : o + length l ≤ keystreamEnd) where
   -- the first stretch may be empty
-  pub one-part : (ys : List ℕ) → first ≡ stop → ys ≡ stretchBy stream 0 (take (length l - rest) (drop rest l)) .bytes
-      → take rest l ++ (ys ++ drop (length l - rest) (drop rest l)) ≡ xorPad (portionPad first stop rest stream) l
+  pub one-part : (ys : List ℕ) → first ≡ stop → ys ≡ stretchBy stream o (take (length l - rest) (drop rest l)) .bytes
+      → take rest l ++ (ys ++ drop (length l - rest) (drop rest l)) ≡ xorPad (portionPad first stop rest (λ k. stream (o + k))) l
   one-part ys none ey =
-      let z : 0 ≡ stop - first = omega arith in
-      stretch-back stream rest (length l) 0 l ys to (omega arith) (omega arith) ey
-      ∙ ap₂ (λ (k : ℕ) (u : List ℕ). xorPad (stretchPad rest (length l) k stream) u) z (sym (stretch-done first stop 0 stream l (omega arith)))
-      ∙ two-stretches first stop rest stream up on l
+      let z : o ≡ o + (stop - first) = omega arith in
+      stretch-back stream rest (length l) o l ys to (omega arith) (omega arith) ey
+      ∙ ap₂ (λ (k : ℕ) (u : List ℕ). xorPad (stretchPad rest (length l) k stream) u) z (sym (stretch-done first stop o stream l (omega arith)))
+      ∙ two-stretches first stop rest o stream up on l
 
-  module _ (ys : List ℕ) (ey : ys ≡ stretchBy stream 0 (take (stop - first) (drop first l)) .bytes) where
-    pub first-part : take first l ++ (ys ++ drop (stop - first) (drop first l)) ≡ xorPad (stretchPad first stop 0 stream) l
-    first-part = stretch-back stream first stop 0 l ys up (omega arith) (omega arith) ey
+  module _ (ys : List ℕ) (ey : ys ≡ stretchBy stream o (take (stop - first) (drop first l)) .bytes) where
+    pub first-part : take first l ++ (ys ++ drop (stop - first) (drop first l)) ≡ xorPad (stretchPad first stop o stream) l
+    first-part = stretch-back stream first stop o l ys up (omega arith) (omega arith) ey
 
     pub length-after : length (take first l ++ (ys ++ drop (stop - first) (drop first l))) ≡ length l
-    length-after = ap length first-part ∙ length-pad (stretchPad first stop 0 stream) l
+    length-after = ap length first-part ∙ length-pad (stretchPad first stop o stream) l
 
-    pub two-parts : (o : ℕ) (m zs : List ℕ) → o ≡ 0 + length (take (stop - first) (drop first l)) → m ≡ take first l ++ (ys ++ drop (stop - first) (drop first l))
-        → zs ≡ stretchBy stream o (take (length m - rest) (drop rest m)) .bytes
-        → take rest m ++ (zs ++ drop (length m - rest) (drop rest m)) ≡ xorPad (portionPad first stop rest stream) l
-    two-parts o m zs eo em ez =
+    pub two-parts : (p : ℕ) (m zs : List ℕ) → p ≡ o + length (take (stop - first) (drop first l)) → m ≡ take first l ++ (ys ++ drop (stop - first) (drop first l))
+        → zs ≡ stretchBy stream p (take (length m - rest) (drop rest m)) .bytes
+        → take rest m ++ (zs ++ drop (length m - rest) (drop rest m)) ≡ xorPad (portionPad first stop rest (λ k. stream (o + k))) l
+    two-parts p m zs ep em ez =
         let n : length m ≡ length l = ap length em ∙ length-after in
-        let z : o ≡ stop - first = omega (arith, eo, part-length first stop l (omega arith)) in
-        stretch-back stream rest (length m) o m zs (omega arith) (omega arith) (omega arith) ez
-        ∙ ap (λ (e : ℕ). xorPad (stretchPad rest e o stream) m) n
+        let z : p ≡ o + (stop - first) = omega (arith, ep, part-length first stop l (omega arith)) in
+        stretch-back stream rest (length m) p m zs (omega arith) (omega arith) (omega arith) ez
+        ∙ ap (λ (e : ℕ). xorPad (stretchPad rest e p stream) m) n
         ∙ ap₂ (λ (k : ℕ) (u : List ℕ). xorPad (stretchPad rest (length l) k stream) u) z (em ∙ first-part)
-        ∙ two-stretches first stop rest stream up on l
+        ∙ two-stretches first stop rest o stream up on l
 
--- and what its blocks are is the portion's keystream
-pub portion-is : (made stream : ℕ → ℕ) → ((k : ℕ) → k < keystreamEnd → made k ≡ stream k)
-    → (first stop rest : ℕ) (l m : List ℕ) → first ≤ stop → stop ≤ rest → length l ≤ keystreamEnd
+-- and what its blocks are is the portion's keystream, as far as the buffer goes
+pub portion-is : (made stream : ℕ → ℕ) (first stop rest : ℕ) (l m : List ℕ) → first ≤ stop → stop ≤ rest → ((k : ℕ) → k < length l → made k ≡ stream k)
     → m ≡ xorPad (portionPad first stop rest made) l → m ≡ xorPad (portionPad first stop rest stream) l
-portion-is made stream same first stop rest l m up on hl e =
+portion-is made stream first stop rest l m up on same e =
     e
     ∙ pad-ext (portionPad first stop rest made) (portionPad first stop rest stream) l
-    (portion-ext first stop rest (length l) made stream up on (λ k h. same k (omega arith)))
+    (portion-ext first stop rest (length l) made stream up on same)

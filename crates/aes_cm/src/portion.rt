@@ -5,7 +5,7 @@ use aes_counter::start::packet_start;
 use aes_keystream::keystream::Keystream;
 use aes_keystream::keystream::xor_stretch;
 ghost use mathlib.Core.Path.{_≡_};
-ghost use Prim.Native.Nat.{_≤_};
+ghost use Prim.Native.Nat.{ℕ, _+_, _%_, _≤_};
 ghost use lib.ListN.{length};
 ghost use Rattle.bits.specs.Xor.{xorPad};
 ghost use Rattle.aes_tables.specs.Tables.{SboxTable, RoundTable};
@@ -14,13 +14,15 @@ ghost use Rattle.aes_counter.specs.Keystream.{keystreamOf};
 ghost use Rattle.stretches.specs.Stretch.{keystreamEnd};
 ghost use Rattle.aes_cm.specs.Portion.{portionPad};
 
-// The bytes from `first` up to `stop` and from `rest` on are two neighbouring stretches. A block that both sides share is carried along, and so made once.
-// The buffer is no longer than a keystream, so neither is LARGE.
-fn portion_by(
+// The bytes from `first` up to `stop` and from `rest` on are two neighbouring stretches, of the keystream from byte `from` on: AES in counter mode starts at
+// its first byte, GCM at byte 32, where the counter is 2. A block that both sides share is carried along, and so made once. The buffer ends before the keystream
+// does, so neither is LARGE.
+pub fn xor_from(
     sbox: &[u8; 256],
     table: &[u8; 2048],
     keys: &[[[u8; 4]; 4]; 11],
     start: Start,
+    from: usize,
     buf: &mut [u8],
     first: usize,
     stop: usize,
@@ -28,12 +30,12 @@ fn portion_by(
 )
     requires { ⌜ Lent (now sbox) (now table) (now keys) (start .key) ⌝ }
     requires { ⌜ Started start ⌝ }
-    requires { ⌜ (first ≤ stop) × ((stop ≤ rest) × ((rest ≤ length (now buf)) × (length (now buf) ≤ keystreamEnd))) ⌝ }
-    ensures { λ _. ⌜ now (buf .exit) ≡ xorPad (portionPad first stop rest (byteFrom (start .key) (start .block))) (now (buf .entry)) ⌝ }
+    requires { ⌜ (from % 16 ≡ 0) × ((first ≤ stop) × ((stop ≤ rest) × ((rest ≤ length (now buf)) × (from + length (now buf) ≤ keystreamEnd)))) ⌝ }
+    ensures { λ _. ⌜ now (buf .exit) ≡ xorPad (portionPad first stop rest (λ k. byteFrom (start .key) (start .block) (from + k))) (now (buf .entry)) ⌝ }
 {
     let s = Keystream {
         block: [0u8; 16],
-        at: 0,
+        at: from,
     };
     if first == stop {
         xor_stretch(sbox, table, keys, start, &mut buf[rest..], s);
@@ -43,8 +45,8 @@ fn portion_by(
     xor_stretch(sbox, table, keys, start, &mut buf[rest..], t);
 }
 
-// The same by key, salt, SSRC and index. The tables are lent: they are written to the stack anew wherever they are made, and under the mask a packet has
-// two keystreams.
+// The keystream of a packet from its first byte on, by key, salt, SSRC and index. The tables are lent: they are written to the stack anew wherever they are made,
+// and under the mask a packet has two keystreams.
 pub fn xor_portion(
     sbox: &[u8; 256],
     table: &[u8; 2048],
@@ -63,5 +65,5 @@ pub fn xor_portion(
 {
     let keys = round_keys(sbox, key);
     let start = packet_start(sbox, table, &keys, key, salt, ssrc, index);
-    portion_by(sbox, table, &keys, start, buf, first, stop, rest);
+    xor_from(sbox, table, &keys, start, 0, buf, first, stop, rest);
 }

@@ -1,9 +1,9 @@
 -- Laws of lists that the toolchain's libraries lack.
 use mathlib.Core.Path.{_≡_, refl, sym, ap, ap₂, _∙_}
 use mathlib.Core.List.{List, [], _∷_, map}
-use Prim.Native.Nat.{ℕ, zero, suc, _<_}
+use Prim.Native.Nat.{ℕ, zero, suc, _-_, _<_}
 use native.Mathlib.Omega.{arith}
-use lib.ListN.{length, getD, length-map}
+use lib.ListN.{length, getD, drop, replicate, length-map}
 use Rattle.bits.specs.Lists.{tabulate}
 
 -- a list of n elements is its elements in order
@@ -32,3 +32,8 @@ pub tabulate-at : {A : Type 0} (d : A) (n : ℕ) (f : ℕ → A) (i : ℕ) → i
 tabulate-at d zero f i h = absurd (omega arith)
 tabulate-at d (suc n) f zero h = refl
 tabulate-at d (suc n) f (suc i) h = tabulate-at d n (λ k. f (suc k)) i (omega arith)
+
+pub drop-replicate : (i n z : ℕ) → drop i (replicate n z) ≡ replicate (n - i) z
+drop-replicate zero n z = let e : n - 0 ≡ n = omega arith in rw e
+drop-replicate (suc i) zero z = let e : 0 - suc i ≡ 0 = omega arith in rw e
+drop-replicate (suc i) (suc n) z = let e : suc n - suc i ≡ n - i = omega arith in rw e (drop-replicate i n z)

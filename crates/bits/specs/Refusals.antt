@@ -54,3 +54,7 @@ wrongWay = 101
 -- about the master key and salt that a session is made from
 abbrev pub wrongSizes : ℕ
 wrongSizes = 102
+
+-- a suite that is neither 0, AES_CM_128_HMAC_SHA1_80, nor 1, AEAD_AES_128_GCM (document 02, CR 3)
+abbrev pub wrongSuite : ℕ
+wrongSuite = 103

@@ -1,6 +1,8 @@
 // A key and a salt as arrays.
 ghost use mathlib.Core.Path.{_≡_};
-ghost use lib.ListN.{length};
+ghost use mathlib.Core.List.{_++_};
+ghost use Prim.Native.Nat.{_-_, _≤_};
+ghost use lib.ListN.{length, replicate};
 
 fn copy_bytes(to: &mut [u8], from: &[u8])
     requires { ⌜ length (now from) ≡ length (now to) ⌝ }
@@ -28,5 +30,16 @@ pub fn array14(b: &[u8]) -> [u8; 14]
 {
     let mut a = [0u8; 14];
     copy_bytes(&mut a, b);
+    a
+}
+
+// A salt of fourteen bytes, or a shorter one with zeros after it.
+pub fn filled14(b: &[u8]) -> [u8; 14]
+    requires { ⌜ length (now b) ≤ 14 ⌝ }
+    ensures { λ r. ⌜ r ≡ now (b .entry) ++ replicate (14 - length (now (b .entry))) 0 ⌝ }
+{
+    let n = b.len();
+    let mut a = [0u8; 14];
+    copy_bytes(&mut a[0..n], b);
     a
 }

@@ -33,6 +33,9 @@ pub const WAY: u32 = 101;
 // A key that is not 16 bytes, or a salt that is not 14, lent to the keystream.
 pub const SIZES: u32 = 102;
 
+// A suite that is neither 0, AES_CM_128_HMAC_SHA1_80, nor 1, AEAD_AES_128_GCM.
+pub const SUITE: u32 = 103;
+
 // The number that a call gives back for a refusal.
 pub fn number(refusal: Refusal) -> u8
     ensures { λ r. ⌜ r ≡ numberOf refusal ⌝ }

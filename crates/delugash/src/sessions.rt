@@ -3,7 +3,9 @@ use adding::add::add;
 use making::make::make;
 use session::layout::SIZE;
 ghost use mathlib.Core.Path.{_≡_};
+ghost use Prim.Native.Nat.{_<_};
 ghost use lib.ListN.{length};
+ghost use Rattle.suites.specs.Suites.{suiteOf};
 ghost use Rattle.session.specs.Calls.{Leaves, makeCall, addCall};
 ghost use Rattle.session.specs.Making.{makeOf};
 ghost use Rattle.session.specs.Memory.{size, decode};
@@ -23,11 +25,12 @@ pub extern "C" fn delugash_make(
     salt: &[u8],
     policy: u64,
     ids: &[u8],
+    suite: u32,
 ) -> u32
-    ensures { λ r. ⌜ Leaves (makeCall (now (session .entry)) (now (key .entry)) (now (salt .entry)) policy (now (ids .entry))) r (now (session .exit)) ⌝ }
-    ensures { λ r. ⌜ (length (now (session .entry)) ≡ size → decode (now (session .exit)) ≡ makeOf (now (key .entry)) (now (salt .entry)) policy (now (ids .entry)) .session) ⌝ }
+    ensures { λ r. ⌜ Leaves (makeCall (now (session .entry)) (now (key .entry)) (now (salt .entry)) policy (now (ids .entry)) suite) r (now (session .exit)) ⌝ }
+    ensures { λ r. ⌜ (length (now (session .entry)) ≡ size → suite < 2 → decode (now (session .exit)) ≡ makeOf (suiteOf suite) (now (key .entry)) (now (salt .entry)) policy (now (ids .entry)) .session) ⌝ }
 {
-    make(session, key, salt, policy, ids)
+    make(session, key, salt, policy, ids, suite)
 }
 
 #[no_mangle]

@@ -1,5 +1,5 @@
 -- One law for each way that the front of a packet call ends.
-use mathlib.Core.Path.{_≡_, refl, sym, ap, _∙_}
+use mathlib.Core.Path.{_≡_, refl, sym, ap, ap₂, _∙_}
 use mathlib.Core.List.{List}
 use Prim.Native.Nat.{ℕ, _+_, _-_, _≤_, _<_}
 use native.Mathlib.Omega.{arith}
@@ -18,28 +18,28 @@ use Rattle.replay.specs.declared.answer.Judged.{Judged}
 use Rattle.replay.specs.declared.answer.Judged.the-variants.{Index, Refused as NoIndex}
 use Rattle.policies.specs.declared.policy.Policy.{Policy}
 use Rattle.policies.specs.declared.policy.Way.{Way}
-use Rattle.policies.specs.Judging.{addedOf, judgedOf}
+use Rattle.policies.specs.Judging.{tailOf, addedOf, judgedOf}
 use Rattle.wire.proofs.Tagging.{judged-passed}
 use Rattle.session.specs.declared.place.Place.{Place}
 use Rattle.session.specs.declared.place.Place.the-variants.{At, Nowhere}
-use Rattle.session.specs.Memory.{size, policyAt, decode}
-use Rattle.session.specs.Packets.{tagLength}
+use Rattle.suites.specs.Suites.{tagLengthOf}
+use Rattle.session.specs.Memory.{size, suiteAt, policyAt, decode}
 use Rattle.session.specs.Places.{placeFrom}
 use Rattle.records.specs.Tracks.{recordIn, judgedBy}
 use Rattle.policies.proofs.Layouts.{apart}
 use Rattle.front.specs.declared.open.Opened.{Opened}
 use Rattle.front.specs.Opening.{shut, noMemory, openIndex, openAt, streamOf, openOf, PlacedAt, InStream, Ready, ReadyAt, OpensAs}
 
--- a packet that was judged has its fixed header
-module _ (way : Way) (policy : Policy) (buf : List ℕ) (n : ℕ) (h : Layout) (inside : n ≤ length buf) (read : judgedOf way policy tagLength (take n buf) ≡ Read h) where
-  twelve : 12 ≤ length (take n buf)
-  twelve = let p = judged-passed way policy tagLength (take n buf) h read in omega (arith, p .long)
+-- a packet that was judged has its fixed header, and one that arrived its tag
+module _ (way : Way) (policy : Policy) (t : ℕ) (buf : List ℕ) (n : ℕ) (h : Layout) (inside : n ≤ length buf) (read : judgedOf way policy t (take n buf) ≡ Read h) where
+  whole : 12 + tailOf way t ≤ length (take n buf)
+  whole = judged-passed way policy t (take n buf) h read .long
 
   pub judged-long : 12 ≤ length (take (n - 0) buf)
-  judged-long = let z : n - 0 ≡ n = omega arith in rw z twelve
+  judged-long = let z : n - 0 ≡ n = omega arith in rw z (omega (arith, whole))
 
-  pub judged-twelve : 12 ≤ n
-  judged-twelve = omega (arith, twelve, length-take-le n buf inside)
+  pub judged-whole : 12 + tailOf way t ≤ n
+  judged-whole = omega (arith, whole, length-take-le n buf inside)
 
 module _ (way : Way) (words buf : List ℕ) (n : ℕ) where
   pub open-memory : (length words ≡ size → ⊥) → noMemory ≡ openOf way words buf n
@@ -51,25 +51,25 @@ module _ (way : Way) (words buf : List ℕ) (n : ℕ) where
     unfolding openOf
     open-length h = rw (eq-eqb (length words) size sized, lt-ltb (length buf) n h)
 
-    module _ (inside : n ≤ length buf) (policy : Policy) (isPolicy : policy ≡ policyAt (word words 0))
-        (j : Header) (judged : j ≡ judgedOf way policy tagLength (take (n - 0) buf)) where
+    module _ (inside : n ≤ length buf) (policy : Policy) (isPolicy : policy ≡ policyAt (word words 0)) (t : ℕ) (isT : t ≡ tagLengthOf (suiteAt (word words 0)))
+        (j : Header) (judged : j ≡ judgedOf way policy t (take (n - 0) buf)) where
       -- the code's slice of the packet
       front-of : take (n - 0) buf ≡ take n buf
       front-of = let z : n - 0 ≡ n = omega arith in rw z
 
-      judged-so : judgedOf way (policyAt (word words 0)) tagLength (take n buf) ≡ j
-      judged-so = sym (judged ∙ ap (judgedOf way policy tagLength) front-of ∙ ap (λ (p : Policy). judgedOf way p tagLength (take n buf)) isPolicy)
+      judged-so : judgedOf way (policyAt (word words 0)) (tagLengthOf (suiteAt (word words 0))) (take n buf) ≡ j
+      judged-so = sym (judged ∙ ap (judgedOf way policy t) front-of ∙ ap₂ (λ (p : Policy) (k : ℕ). judgedOf way p k (take n buf)) isPolicy isT)
 
       pub open-unread : (r : Refusal) → j ≡ Refused r → shut r ≡ openOf way words buf n
       unfolding openOf
       open-unread r e = rw (eq-eqb (length words) size sized, le-ltb (length buf) n inside, judged-so, e)
 
-      module _ (h : Layout) (read : j ≡ Read h) (more : ℕ) (isMore : more ≡ addedOf way policy tagLength h) where
-        pub open-judged : judgedOf way policy tagLength (take n buf) ≡ Read h
-        open-judged = ap (judgedOf way policy tagLength) (sym front-of) ∙ sym judged ∙ read
+      module _ (h : Layout) (read : j ≡ Read h) (more : ℕ) (isMore : more ≡ addedOf way policy t h) where
+        pub open-judged : judgedOf way policy t (take n buf) ≡ Read h
+        open-judged = ap (judgedOf way policy t) (sym front-of) ∙ sym judged ∙ read
 
-        more-so : addedOf way (policyAt (word words 0)) tagLength h ≡ more
-        more-so = ap (λ (p : Policy). addedOf way p tagLength h) (sym isPolicy) ∙ sym isMore
+        more-so : addedOf way (policyAt (word words 0)) (tagLengthOf (suiteAt (word words 0))) h ≡ more
+        more-so = ap₂ (λ (p : Policy) (k : ℕ). addedOf way p k h) (sym isPolicy) (sym isT) ∙ sym isMore
 
         pub open-room : length buf - n < more → shut refusal.Room ≡ openOf way words buf n
         unfolding openOf

@@ -19,8 +19,8 @@ use Rattle.policies.specs.declared.policy.Way.{Way}
 use Rattle.policies.specs.Judging.{addedOf, judgedOf}
 use Rattle.session.specs.declared.place.Place.{Place}
 use Rattle.session.specs.declared.place.Place.the-variants.{At, Nowhere}
-use Rattle.session.specs.Memory.{size, policyAt, decode}
-use Rattle.session.specs.Packets.{tagLength}
+use Rattle.suites.specs.Suites.{tagLengthOf}
+use Rattle.session.specs.Memory.{size, suiteAt, policyAt, decode}
 use Rattle.session.specs.Places.{placeFrom}
 use Rattle.records.specs.Tracks.{recordIn, judgedBy}
 use Rattle.front.specs.declared.open.Opened.{Opened}
@@ -59,14 +59,14 @@ module _ (way : Way) (words buf : List ℕ) (n : ℕ) where
   abbrev pub openRead : Header → Opened
   openRead (Refused r) = shut r
   openRead (Read h) =
-      pick (ltb (length buf) (n + addedOf way (policyAt (word words 0)) tagLength h)) (shut refusal.Room) (streamOf way words (take n buf) h)
+      pick (ltb (length buf) (n + addedOf way (policyAt (word words 0)) (tagLengthOf (suiteAt (word words 0))) h)) (shut refusal.Room) (streamOf way words (take n buf) h)
 
   -- the memory's size, then LENGTH
   unfoldable pub openOf : Opened
   openOf =
       pick (eqb (length words) size)
       (pick (ltb (length buf) n) (shut refusal.Length)
-      (openRead (judgedOf way (policyAt (word words 0)) tagLength (take n buf))))
+      (openRead (judgedOf way (policyAt (word words 0)) (tagLengthOf (suiteAt (word words 0))) (take n buf))))
       noMemory
 
 -- ---- what holds where nothing was refused, for the calls' cores
@@ -89,8 +89,8 @@ InStream way words p o = PlacedAt way words p (o .place) (o .index) (o .header)
 pub record Readable (way : Way) (words buf : List ℕ) (n : ℕ) (h : Layout) : Type 0 where
   pub sized : length words ≡ size
   pub inside : n ≤ length buf
-  pub judged : judgedOf way (policyAt (word words 0)) tagLength (take n buf) ≡ Read h
-  pub room : n + addedOf way (policyAt (word words 0)) tagLength h ≤ length buf
+  pub judged : judgedOf way (policyAt (word words 0)) (tagLengthOf (suiteAt (word words 0))) (take n buf) ≡ Read h
+  pub room : n + addedOf way (policyAt (word words 0)) (tagLengthOf (suiteAt (word words 0))) h ≤ length buf
 
 pub record Ready (way : Way) (words buf : List ℕ) (n i k : ℕ) (h : Layout) : Type 0 where
   pub readable : Readable way words buf n h

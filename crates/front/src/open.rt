@@ -15,7 +15,9 @@ use rtp_header::header::header_number;
 use session::answer::Answer;
 use session::layout::SIZE;
 use session::load::load_policy;
+use session::load::load_suite;
 use session::place::Place;
+use suites::suite::tag_length;
 ghost use mathlib.Core.Path.{_≡_};
 ghost use Prim.Native.Nat.{_≤_};
 ghost use lib.ListN.{length};
@@ -97,12 +99,14 @@ pub fn open(session: &[u64], buf: &[u8], n: usize, way: Way) -> Opened
     if buf.len() < n {
         return refuse(Refusal::Length);
     }
-    let policy = load_policy(session[0]);
-    let header = judge(&buf[0..n], way, policy, 10);
+    let first = session[0];
+    let policy = load_policy(first);
+    let t = tag_length(load_suite(first));
+    let header = judge(&buf[0..n], way, policy, t);
     let Header::Read(h) = header else {
         return not_read(header);
     };
-    if buf.len() - n < added(way, policy, h, 10) {
+    if buf.len() - n < added(way, policy, h, t) {
         return refuse(Refusal::Room);
     }
     in_stream(session, &buf[0..n], way, h)

@@ -1,3 +1,2 @@
 pub mod Hmac
 pub mod Steps
-pub mod Tag

@@ -30,3 +30,10 @@ pub fn array14(b: &[u8]) -> [u8; 14] {
     copy_bytes(&mut a, b);
     a
 }
+
+// The first twelve; zeros where there are fewer.
+pub fn array12(b: &[u8]) -> [u8; 12] {
+    let mut a = [0u8; 12];
+    copy_bytes(&mut a, b);
+    a
+}

@@ -1,100 +1,74 @@
--- A packet of n bytes at the start of a buffer, with its tag in the last t.
+-- The packet that is given back, as the code puts it together: decrypted, and out of its form.
 use mathlib.Core.Path.{_≡_, sym, ap, ap₂, _∙_}
-use mathlib.Core.Bool.{Bool, true, not, _||_}
+use mathlib.Core.Bool.{Bool}
 use mathlib.Core.List.{List, _++_}
-use Prim.Native.Nat.{ℕ, _+_, _-_, _/_, _^_, _≤_, _<_}
+use Prim.Native.Nat.{ℕ, _+_, _-_, _≤_}
 use native.Mathlib.Omega.{arith}
-use lib.ListN.{length, getD, take, drop, take-append-drop}
-use lib.Seq.{getD-take, length-take-le, take-take}
-use Rattle.bits.specs.BigEndian.{toBytes}
-use Rattle.hmac.specs.Steps.{macOf}
-use Rattle.hmac.specs.Tag.{sameOf}
+use lib.ListN.{length, take, drop}
+use lib.Seq.{take-at, drop-at, take-take, length-take-le}
 use Rattle.rtp_header.specs.declared.header.Header.the-variants.{Read}
 use Rattle.rtp_header.specs.declared.header.Layout.{Layout}
-use Rattle.rtp_elements.specs.Elements.{wholeOf}
-use Rattle.rtp_header.specs.Header.{layoutOf, blockOf}
+use Rattle.rtp_header.specs.Header.{layoutOf}
+use Rattle.suites.specs.declared.suite.Suite.{Suite}
+use Rattle.suites.specs.Suites.{tagLengthOf}
 use Rattle.packet_cipher.specs.declared.keys.Keys.{Keys}
+use Rattle.packet_cipher.specs.Cipher.{streamOf, headerStreamOf, cipherOf}
+use Rattle.packet_cipher.proofs.Crypting.{crypted-length, crypted-layout}
 use Rattle.policies.specs.declared.policy.Policy.{Policy}
 use Rattle.policies.specs.declared.policy.Way.the-variants.{Receiving}
 use Rattle.policies.specs.Cryptex.{untaggedOf}
-use Rattle.policies.specs.Judging.{elementsFit, judgedOf}
-use Rattle.policies.specs.Policies.{usesMask}
-use Rattle.wire.specs.Wire.{restoreOf, tagFits}
-use Rattle.packet_cipher.specs.Cipher.{cipherOf}
-use Rattle.policies.proofs.Layouts.{sound, layout-same}
-use Rattle.cryptex.proofs.Raising.{drop-take}
-use Rattle.wire.proofs.RoundTrips.{Passed, append-block}
-use Rattle.wire.proofs.Wires.{tag-code, tag-compared, restore-is}
-use Rattle.wire.proofs.Tagging.{judged-layout, judged-passed}
+use Rattle.policies.specs.Judging.{judgedOf}
+use Rattle.wire.specs.Wire.{restoreOf}
+use Rattle.wire.proofs.Wires.{restore-is}
+use Rattle.wire.specs.Steps.{openedOf}
+use Rattle.wire.proofs.Arriving.{long, read, fits}
 
-module _ (policy : Policy) (t : ℕ) (l : List ℕ) (n : ℕ) (h : Layout) (inside : n ≤ length l) (e : judgedOf Receiving policy t (take n l) ≡ Read h) where
-  whole-layout : h ≡ layoutOf (take n l)
-  whole-layout = judged-layout Receiving policy t (take n l) h e
+module _ (suite : Suite) (keys : Keys) (policy : Policy) (listed : ℕ → Bool) (ssrc index : ℕ) (l : List ℕ) (n : ℕ) (h : Layout) (inside : n ≤ length l)
+    (e : judgedOf Receiving policy (tagLengthOf suite) (take n l) ≡ Read h) where
+  abbrev t : ℕ
+  t = tagLengthOf suite
 
-  d : Passed Receiving policy t (take n l)
-  d = judged-passed Receiving policy t (take n l) h e
+  pub tagged-long : t ≤ n
+  tagged-long = omega (arith, long policy t l n h inside e)
 
-  count : length (take n l) ≡ n
-  count = length-take-le n l inside
+  body : List ℕ
+  body = take (n - t) l
 
-  pub long : 12 + t ≤ n
-  long = omega (arith, d .long, count)
+  plain : List ℕ
+  plain = cipherOf suite keys policy listed ssrc index body
 
-  body-count : length (take (n - t) l) ≡ n - t
-  body-count = length-take-le (n - t) l (omega arith)
+  plain-length : length plain ≡ n - t
+  unfolding plain body
+  plain-length = crypted-length policy listed (streamOf suite keys ssrc index) (headerStreamOf suite keys ssrc index) body ∙ length-take-le (n - t) l (omega arith)
 
-  -- the bytes before the tag
-  body-is : take (length (take n l) - t) (take n l) ≡ take (n - t) l
-  body-is = ap (λ (k : ℕ). take (k - t) (take n l)) count ∙ take-take (n - t) n l (omega arith)
+  -- the buffer b once the packet is decrypted
+  module _ (b : List ℕ) (eb : b ≡ openedOf suite keys policy listed ssrc index n l) where
+    part-front : take (n - t - 0) (drop 0 b) ≡ plain
+    unfolding plain body
+    part-front = ap (λ (k : List ℕ). take (n - t - 0) k) eb ∙ take-at plain (drop (n - t) l) (n - t - 0) (omega (arith, plain-length))
 
-  same-byte : (i : ℕ) → i < n - t → getD (take (n - t) l) i 0 ≡ getD (take n l) i 0
-  same-byte i b = getD-take (n - t) l i 0 b ∙ sym (getD-take n l i 0 (omega arith))
+    part-back : drop (n - t - 0) (drop 0 b) ≡ drop (n - t) l
+    unfolding plain body
+    part-back = ap (λ (k : List ℕ). drop (n - t - 0) k) eb ∙ drop-at plain (drop (n - t) l) (n - t - 0) (omega (arith, plain-length))
 
-  body-layout : layoutOf (take (n - t) l) ≡ layoutOf (take n l)
-  body-layout =
-      let s = sound (take n l) in
-      layout-same (take n l) (take (n - t) l) (same-byte 0 (omega (arith, long)))
-      (λ x i a b. same-byte i (omega (arith, s .four x, s .payload, d .fits, count)))
+    -- its layout is the one that was read
+    pub plain-read : h ≡ layoutOf (take (n - t - 0) (drop 0 b))
+    unfolding plain body
+    plain-read =
+        read policy t l n h inside e
+        ∙ sym (ap layoutOf part-front ∙ crypted-layout policy listed (streamOf suite keys ssrc index) (headerStreamOf suite keys ssrc index) body)
 
-  pub read : h ≡ layoutOf (take (n - t) l)
-  read = whole-layout ∙ sym body-layout
+    pub plain-fits : h .payload ≤ length (take (n - t - 0) (drop 0 b))
+    unfolding plain body
+    plain-fits = omega (arith, ap length part-front, plain-length, fits policy t l n h inside e, length-take-le (n - t) l (omega arith))
 
-  pub fits : h .payload ≤ length (take (n - t) l)
-  fits = omega (arith, ap (λ (g : Layout). g .payload) whole-layout, d .fits, count, body-count)
-
-  pub small : length (take (n - t) l) ≤ 2048
-  small = omega (arith, d .size, count, body-count)
-
-  whole-is : take (n - t) l ++ drop (n - t) (take n l) ≡ take n l
-  whole-is = ap (λ (b : List ℕ). b ++ drop (n - t) (take n l)) (sym (take-take (n - t) n l (omega arith))) ∙ take-append-drop (n - t) (take n l)
-
-  body-block : blockOf h (take (n - t) l) ≡ blockOf h (take n l)
-  body-block =
-      let g : blockOf (layoutOf (take (n - t) l)) (take (n - t) l ++ drop (n - t) (take n l)) ≡ blockOf (layoutOf (take (n - t) l)) (take (n - t) l)
-      = append-block (take (n - t) l) (drop (n - t) (take n l)) (omega (arith, long, body-count)) (rw read at fits) in
-      sym (rw (← read, whole-is) at g)
-
-  pub elements : elementsFit policy h (take (n - t) l) ≡ true
-  elements =
-      ap (λ (b : List ℕ). not (usesMask policy) || wholeOf (h .tag) b) body-block ∙ rw whole-layout (d .elements)
-
-  -- as the code has it: the code over the body, its first t bytes beside the packet's last
-  pub tag-fits : (keys : Keys) (index : ℕ) (code : List ℕ) → code ≡ macOf (keys .auth) (take (n - t - 0) (drop 0 l) ++ toBytes 4 (index / 2 ^ 16))
-      → sameOf (take (t - 0) (drop 0 code)) (take (n - (n - t)) (drop (n - t) l)) ≡ tagFits t keys index (take n l)
-  tag-fits keys index code c =
-      let z : t - 0 ≡ t = omega arith in
-      let y : n - t - 0 ≡ n - t = omega arith in
-      let w : drop (length (take n l) - t) (take n l) ≡ take (n - (n - t)) (drop (n - t) l)
-      = ap (λ (k : ℕ). drop (k - t) (take n l)) count ∙ drop-take (n - t) n l in
-      tag-compared t keys index (take n l) (take (t - 0) (drop 0 code)) (take (n - (n - t)) (drop (n - t) l))
-      (ap (λ (k : ℕ). take k code) z ∙ tag-code t keys index (take (length (take n l) - t) (take n l)) code (rw (y, ← body-is) at c)) (sym w)
-
-  pub restored : (keys : Keys) (listed : ℕ → Bool) (ssrc index : ℕ) (ys : List ℕ)
-      → ys ≡ untaggedOf policy (cipherOf keys policy listed ssrc index (take (n - t - 0) (drop 0 l)))
-      → ys ++ drop (n - t - 0) (drop 0 l) ≡ restoreOf t keys policy listed ssrc index (take n l) ++ drop (n - t) l
-  restored keys listed ssrc index ys q =
-      let y : n - t - 0 ≡ n - t = omega arith in
-      ap₂ (λ (u v : List ℕ). u ++ v)
-      (q ∙ ap (λ (b : List ℕ). untaggedOf policy (cipherOf keys policy listed ssrc index b)) (ap (λ (k : ℕ). take k l) y ∙ sym body-is)
-      ∙ sym (restore-is t keys index policy listed ssrc (take n l)))
-      (ap (λ (k : ℕ). drop k l) y)
+    pub restored : (ys : List ℕ) → ys ≡ untaggedOf policy (take (n - t - 0) (drop 0 b))
+        → ys ++ drop (n - t - 0) (drop 0 b) ≡ restoreOf suite keys policy listed ssrc index (take n l) ++ drop (n - t) l
+    unfolding plain body
+    restored ys q =
+        let count : length (take n l) ≡ n = length-take-le n l inside in
+        let same : take (length (take n l) - t) (take n l) ≡ body = ap (λ (k : ℕ). take (k - t) (take n l)) count ∙ take-take (n - t) n l (omega arith) in
+        ap₂ (λ (u v : List ℕ). u ++ v)
+        (q ∙ ap (untaggedOf policy) part-front ∙ ap (λ (x : List ℕ). untaggedOf policy (cipherOf suite keys policy listed ssrc index x)) (sym same)
+        ∙ sym (restore-is suite keys policy ssrc index listed (take n l)))
+        part-back

@@ -1,74 +1,66 @@
--- The packet that is sent, as the code puts it together: the encrypted packet, and the tag behind it.
+-- The packet that is sent, as the code puts it together: the form, encrypted, and the tag behind it.
 use mathlib.Core.Path.{_≡_, refl, sym, ap, ap₂, _∙_}
-use mathlib.Core.Bool.{Bool, true, false, _&&_}
+use mathlib.Core.Bool.{Bool}
 use mathlib.Core.List.{List, _++_, append-assoc}
-use Prim.Native.Nat.{ℕ, _+_, _-_, _/_, _^_, _≤_}
+use Prim.Native.Nat.{ℕ, _+_, _-_, _≤_}
 use native.Mathlib.Omega.{arith}
-use lib.ListN.{length, take, drop}
-use lib.Seq.{take-at, drop-at, drop-drop}
-use Rattle.bits.specs.BigEndian.{toBytes}
-use Rattle.bits.specs.Pick.{pick}
-use Rattle.hmac.specs.Steps.{macOf}
-use Rattle.rtp_header.specs.declared.header.Header.the-variants.{Read}
-use Rattle.rtp_header.specs.declared.header.Layout.{Layout}
-use Rattle.rtp_header.specs.Header.{layoutOf}
+use lib.ListN.{length, take, drop, length-drop}
+use lib.Seq.{take-at, drop-at, drop-drop, length-take-le}
+use Rattle.suites.specs.declared.suite.Suite.{Suite}
+use Rattle.suites.specs.Suites.{tagLengthOf}
 use Rattle.packet_cipher.specs.declared.keys.Keys.{Keys}
-use Rattle.policies.specs.declared.policy.Policy.{Policy}
-use Rattle.policies.specs.declared.policy.Way.the-variants.{Sending}
-use Rattle.policies.specs.Cryptex.{addsBlock, cryptexTag, written16, taggedOf}
-use Rattle.wire.specs.Wire.{givenBackOf, bodyBy, tagOf, wireOf}
-use Rattle.policies.specs.Judging.{judgedOf}
-use Rattle.policies.specs.Policies.{usesCryptex}
 use Rattle.packet_cipher.specs.Cipher.{streamOf, headerStreamOf, cipherOf}
+use Rattle.packet_cipher.specs.Tag.{tagOf}
 use Rattle.packet_cipher.proofs.Crypting.{crypted-length}
-use Rattle.wire.proofs.Forms.{written-length}
-use Rattle.wire.proofs.Wires.{body-is, tag-code, wire-is}
-use Rattle.wire.proofs.Tagging.{count, small, not-added, is-added, grown}
+use Rattle.policies.specs.declared.policy.Policy.{Policy}
+use Rattle.policies.specs.Cryptex.{taggedOf}
+use Rattle.wire.specs.Wire.{givenBackOf, bodyBy, wireOf}
+use Rattle.wire.proofs.Wires.{body-is, wire-is}
 
-either-length : (t : Bool) (a b : List ℕ) → length a ≡ length b → length (pick t a b) ≡ length b
-either-length true a b e = e
-either-length false a b e = refl
+module _ (suite : Suite) (keys : Keys) (policy : Policy) (listed : ℕ → Bool) (ssrc index : ℕ) (l : List ℕ) (n : ℕ) where
+  abbrev form : List ℕ
+  form = taggedOf policy (givenBackOf policy (take n l))
 
-tagged-length : (policy : Policy) (p : List ℕ) → length (taggedOf policy p) ≡ length p
-unfolding taggedOf
-tagged-length policy p =
-    either-length (usesCryptex policy && layoutOf p .x) (written16 p (layoutOf p .extension) (cryptexTag (layoutOf p .tag))) p
-    (written-length p (layoutOf p .extension) (cryptexTag (layoutOf p .tag)))
+  abbrev cipher : List ℕ → List ℕ
+  cipher = cipherOf suite keys policy listed ssrc index
 
-module _ (policy : Policy) (l : List ℕ) (n : ℕ) (h : Layout) (inside : n ≤ length l) (e : judgedOf Sending policy 10 (take n l) ≡ Read h) where
-  given-length : (t : Bool) → addsBlock policy h ≡ t → length (givenBackOf policy (take n l)) ≡ n + pick t 4 0
-  given-length true a = ap length (sym (is-added policy l n h inside e a)) ∙ grown policy l n h inside e a
-  given-length false a = ap length (sym (not-added policy l n h inside e a)) ∙ count policy l n h inside e ∙ omega arith
+  -- the buffer b once the packet has its form, of m bytes
+  module _ (m : ℕ) (long : length form ≡ m) (b : List ℕ) (eb : b ≡ form ++ drop m l) where
+    pub part-front : take (m - 0) (drop 0 b) ≡ form
+    part-front = ap (λ (k : List ℕ). take (m - 0) k) eb ∙ take-at form (drop m l) (m - 0) (omega arith)
 
-  module _ (keys : Keys) (listed : ℕ → Bool) (ssrc index : ℕ) where
-    abbrev body : List ℕ
-    body = bodyBy policy (cipherOf keys policy listed ssrc index) (take n l)
+    part-back : drop (m - 0) (drop 0 b) ≡ drop m l
+    part-back = ap (λ (k : List ℕ). drop (m - 0) k) eb ∙ drop-at form (drop m l) (m - 0) (omega arith)
 
-    body-length : length body ≡ n + pick (addsBlock policy h) 4 0
-    body-length =
-        ap length (body-is policy (cipherOf keys policy listed ssrc index) (take n l))
-        ∙ crypted-length policy listed (streamOf keys ssrc index) (headerStreamOf keys ssrc index) (taggedOf policy (givenBackOf policy (take n l)))
-        ∙ tagged-length policy (givenBackOf policy (take n l)) ∙ given-length (addsBlock policy h) refl
+    -- and once it is encrypted
+    module _ (ys : List ℕ) (ey : ys ≡ cipher (take (m - 0) (drop 0 b))) where
+      is-body : ys ≡ bodyBy policy cipher (take n l)
+      is-body = ey ∙ ap cipher part-front ∙ sym (body-is policy cipher (take n l))
 
-    -- the buffer b once the packet is encrypted, its length m
-    module _ (m : ℕ) (em : m ≡ n + pick (addsBlock policy h) 4 0) (b : List ℕ) (eb : b ≡ body ++ drop m l) where
-      in-buffer : take m b ≡ body
-      in-buffer = ap (take m) eb ∙ take-at body (drop m l) m (body-length ∙ sym em)
+      ys-long : length ys ≡ m
+      ys-long = ap length (ey ∙ ap cipher part-front) ∙ crypted-length policy listed (streamOf suite keys ssrc index) (headerStreamOf suite keys ssrc index) form ∙ long
 
-      pub body-front : take (m - 0) (drop 0 b) ≡ body
-      body-front = let z : m - 0 ≡ m = omega arith in ap (λ (k : ℕ). take k b) z ∙ in-buffer
+      abbrev c : List ℕ
+      c = ys ++ drop (m - 0) (drop 0 b)
 
-      pub body-small : length (take (m - 0) (drop 0 b)) ≤ 2048
-      body-small = omega (arith, ap length body-front, body-length, small policy l n h inside e)
+      front-is : take m c ≡ ys
+      front-is = take-at ys (drop (m - 0) (drop 0 b)) m ys-long
 
-      -- the code over it, and its first ten bytes in their place
-      pub sent : (code place : List ℕ) → code ≡ macOf (keys .auth) (take (m - 0) (drop 0 b) ++ toBytes 4 (index / 2 ^ 16)) → place ≡ take 10 code
-          → take m b ++ (place ++ drop (m + 10 - m) (drop m b)) ≡ wireOf 10 keys policy listed ssrc index (take n l) ++ drop (m + 10) l
-      sent code place c q =
-          let z : m + 10 - m ≡ 10 = omega arith in
-          let k : take 10 code ≡ tagOf 10 keys index body = tag-code 10 keys index body code (rw body-front at c) in
-          let g : drop m b ≡ drop m l = ap (drop m) eb ∙ drop-at body (drop m l) m (body-length ∙ sym em) in
-          ap₂ (λ (u v : List ℕ). u ++ v) in-buffer
-          (ap₂ (λ (u v : List ℕ). u ++ v) (q ∙ k) (ap₂ (λ (i : ℕ) (v : List ℕ). drop i v) z g ∙ drop-drop 10 m l))
-          ∙ sym (append-assoc body (tagOf 10 keys index body) (drop (m + 10) l))
-          ∙ ap (λ (w : List ℕ). w ++ drop (m + 10) l) (sym (wire-is 10 keys index policy listed ssrc (take n l)))
+      back-is : drop m c ≡ drop m l
+      back-is = drop-at ys (drop (m - 0) (drop 0 b)) m ys-long ∙ part-back
+
+      -- the first bytes of the code, in their place
+      pub sent : (end : ℕ) → end ≡ m + tagLengthOf suite → end ≤ length l → (code place : List ℕ) → take (tagLengthOf suite) code ≡ tagOf suite keys policy ssrc index ys
+          → place ≡ take (length (take (end - m) (drop m c))) code
+          → take m c ++ (place ++ drop (end - m) (drop m c)) ≡ wireOf suite keys policy listed ssrc index (take n l) ++ drop end l
+      sent end e fits code place t q =
+          let z : end - m ≡ tagLengthOf suite = omega arith in
+          let y : m + tagLengthOf suite ≡ end = sym e in
+          let k : length (take (end - m) (drop m c)) ≡ tagLengthOf suite
+          = ap (λ (d : List ℕ). length (take (end - m) d)) back-is ∙ length-take-le (end - m) (drop m l) (simp length-drop (omega arith)) ∙ z in
+          let p : place ≡ tagOf suite keys policy ssrc index ys = q ∙ ap (λ (j : ℕ). take j code) k ∙ t in
+          let g : drop (end - m) (drop m c) ≡ drop end l = ap₂ (λ (i : ℕ) (v : List ℕ). drop i v) z back-is ∙ drop-drop (tagLengthOf suite) m l ∙ ap (λ (j : ℕ). drop j l) y in
+          ap₂ (λ (u v : List ℕ). u ++ v) front-is (ap₂ (λ (u v : List ℕ). u ++ v) p g)
+          ∙ sym (append-assoc ys (tagOf suite keys policy ssrc index ys) (drop end l))
+          ∙ ap (λ (w : List ℕ). w ++ drop end l)
+          (ap (λ (u : List ℕ). u ++ tagOf suite keys policy ssrc index u) is-body ∙ sym (wire-is suite keys policy ssrc index listed (take n l)))

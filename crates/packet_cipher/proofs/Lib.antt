@@ -1,3 +1,5 @@
 pub mod Pads
 pub mod Passes
 pub mod Crypting
+pub mod Tagging
+pub mod GcmPass

@@ -1,4 +1,4 @@
-// Encrypting and decrypting a packet in place.
+// What is encrypted of a packet; and a packet encrypted and decrypted in place under AES_CM_128_HMAC_SHA1_80.
 use crate::keys::Keys;
 use aes_cm::portion::xor_portion;
 use aes_tables::tables;
@@ -12,6 +12,7 @@ ghost use mathlib.Core.Bool.{true};
 ghost use Prim.Native.Nat.{_≤_};
 ghost use lib.ListN.{length};
 ghost use Rattle.rtp_header.specs.Header.{layoutOf};
+ghost use Rattle.suites.specs.declared.suite.Suite.the-variants.{CmHmac};
 ghost use Rattle.rtp_elements.specs.Mask.{listedIn};
 ghost use Rattle.packet_cipher.specs.Cipher.{portionOf, cipherOf};
 ghost use Rattle.policies.specs.Judging.{elementsFit};
@@ -24,7 +25,7 @@ pub struct Portion {
 }
 
 // What the packet's own keystream goes onto.
-fn encrypted_portion(cryptex: bool, h: Layout) -> Portion
+pub fn encrypted_portion(cryptex: bool, h: Layout) -> Portion
     ensures { λ r. ⌜ r ≡ portionOf cryptex h ⌝ }
 {
     if cryptex {
@@ -54,7 +55,7 @@ pub fn crypt(
 )
     requires { ⌜ (h ≡ layoutOf (now packet)) × ((h .payload ≤ length (now packet)) × (length (now packet) ≤ 2048)) ⌝ }
     requires { ⌜ elementsFit policy h (now packet) ≡ true ⌝ }
-    ensures { λ _. ⌜ now (packet .exit) ≡ cipherOf keys policy (listedIn (now (ids .entry))) ssrc index (now (packet .entry)) ⌝ }
+    ensures { λ _. ⌜ now (packet .exit) ≡ cipherOf CmHmac keys policy (listedIn (now (ids .entry))) ssrc index (now (packet .entry)) ⌝ }
 {
     let sbox = tables::sbox();
     let table = tables::round_table();

@@ -7,45 +7,42 @@ use native.Mathlib.Omega.{arith}
 use lib.ListN.{length, take, drop}
 use lib.Seq.{take-at, drop-at}
 use Rattle.bits.specs.Pick.{pick}
-use Rattle.rtp_header.specs.declared.header.Header.the-variants.{Read}
 use Rattle.rtp_header.specs.declared.header.Layout.{Layout}
 use Rattle.policies.specs.declared.policy.Policy.{Policy}
-use Rattle.policies.specs.declared.policy.Way.the-variants.{Sending}
 use Rattle.policies.specs.Cryptex.{addsBlock, cryptexTag, withBlock, written16, taggedOf}
-use Rattle.policies.specs.Judging.{judgedOf}
 use Rattle.policies.specs.Policies.{usesCryptex}
 use Rattle.packet_cipher.proofs.Crypting.{and-left, and-right}
 use Rattle.wire.specs.Wire.{givenBackOf}
 use Rattle.wire.proofs.Forms.{written-length}
 use Rattle.wire.proofs.Tagging.{cryptex-elements, retagged, is-tagged, not-tagged, adds-cryptex, read, count, fits, elements, small, not-added, places, is-added, grown, grown-layout}
-use Rattle.packet_form.specs.Shapes.{Shaped}
+use Rattle.policies.specs.Shapes.{Sendable, Shaped}
 
 -- ---- the empty block
 
-module _ (policy : Policy) (l : List ℕ) (n : ℕ) (h : Layout) (inside : n ≤ length l) (e : judgedOf Sending policy 10 (take n l) ≡ Read h) where
+module _ (policy : Policy) (l : List ℕ) (n : ℕ) (h : Layout) (inside : n ≤ length l) (d : Sendable policy (take n l) h) where
   pub raised : addsBlock policy h ≡ true
       → Shaped policy (givenBackOf policy (take n l)) (n + 4)
       (record { cc = h .cc; x = true; tag = 0xBEDE; contributors = 12; extension = h .extension; block = h .extension + 4; payload = h .extension + 4 })
   raised a =
       let g : Layout = record { cc = h .cc; x = true; tag = 0xBEDE; contributors = 12; extension = h .extension; block = h .extension + 4; payload = h .extension + 4 } in
-      rw (sym (is-added policy l n h inside e a))
+      rw (sym (is-added (d .t) policy l n h inside (d .judged) a))
       (record {
-        long = grown policy l n h inside e a;
-        small = omega (arith, rw a at (small policy l n h inside e));
-        layout = grown-layout policy l n h inside e a;
-        inside = omega (arith, places policy l n h inside e a);
+        long = grown (d .t) policy l n h inside (d .judged) a;
+        small = omega (arith, rw a at (small (d .t) policy l n h inside (d .judged)));
+        layout = grown-layout (d .t) policy l n h inside (d .judged) a;
+        inside = omega (arith, places (d .t) policy l n h inside (d .judged) a);
         elements = cryptex-elements policy g (withBlock (take n l) (h .extension)) (adds-cryptex policy h a);
       })
 
   pub not-raised : addsBlock policy h ≡ false → Shaped policy (givenBackOf policy (take n l)) n h
   not-raised a =
-      rw (sym (not-added policy l n h inside e a))
+      rw (sym (not-added (d .t) policy l n h inside (d .judged) a))
       (record {
-        long = count policy l n h inside e;
-        small = omega (arith, small policy l n h inside e);
-        layout = read policy l n h inside e;
-        inside = omega (arith, fits policy l n h inside e, count policy l n h inside e);
-        elements = elements policy l n h inside e;
+        long = count (d .t) policy l n h inside (d .judged);
+        small = omega (arith, small (d .t) policy l n h inside (d .judged));
+        layout = read (d .t) policy l n h inside (d .judged);
+        inside = omega (arith, fits (d .t) policy l n h inside (d .judged), count (d .t) policy l n h inside (d .judged));
+        elements = elements (d .t) policy l n h inside (d .judged);
       })
 
 -- ---- the tag

@@ -28,6 +28,7 @@ use Rattle.policies.specs.Cryptex.{isCryptex, taggedOf}
 use Rattle.policies.specs.Policies.{usesMask}
 use Rattle.policies.proofs.Layouts.{sound}
 use Rattle.packet_cipher.specs.declared.keys.Keys.{Keys}
+use Rattle.suites.specs.declared.suite.Suite.the-variants.{CmHmac}
 use Rattle.packet_cipher.specs.Cipher.{streamOf, headerStreamOf, cipherOf}
 use Rattle.packet_cipher.proofs.Pads.{take-pad, drop-pad}
 use Rattle.packet_cipher.proofs.Passes.{portion-order, one-pass}
@@ -43,7 +44,7 @@ two-stretches : (keys : Keys) (policy : Policy) (listed : ℕ → Bool) (ssrc in
     → TwoStretches keys policy listed ssrc index (encryptedOf policy p) p
 two-stretches keys policy listed ssrc index p bare fits =
     let r = encryptedOf policy p in
-    let stream = streamOf keys ssrc index in
+    let stream = streamOf CmHmac keys ssrc index in
     let o = portion-order (isCryptex policy (layoutOf p)) (layoutOf p) (length p) (sound p) (fits .header) in
     let n₁ : length (take (r .stop - r .first) (drop (r .first) p)) ≡ r .stop - r .first = part-length (r .first) (r .stop) p (omega (arith, o .1 .0, o .1 .1)) in
     let n₂ : length (drop (r .rest) p) ≡ length p - r .rest = length-drop (r .rest) p in
@@ -51,7 +52,7 @@ two-stretches keys policy listed ssrc index p bare fits =
       front = served-number stream 0 (take (r .stop - r .first) (drop (r .first) p)) (omega (arith, n₁, o .1 .0, o .1 .1, fits .size));
       back = served-number stream (r .stop - r .first) (drop (r .rest) p) (omega (arith, n₂, o .0, o .1 .0, o .1 .1, fits .size));
       bytes =
-          sym (one-pass listed stream (headerStreamOf keys ssrc index) p policy bare)
+          sym (one-pass listed stream (headerStreamOf CmHmac keys ssrc index) p policy bare)
           ∙ portion-pieces stream (r .first) (r .stop) (r .rest) p (o .0) (o .1 .0) (o .1 .1) (omega (arith, fits .size));
     }
 
@@ -84,16 +85,16 @@ other-masked listed tag pad block k h c =
     let m : getD (maskOf listed tag block) k 0 ≡ 0x00 = mask-on-data .bytes listed tag block k h ∙ rw c in
     ap (λ (l : List ℕ). getD l k 0) (masked-is listed tag pad block) ∙ pad-stays (maskedPad (maskOf listed tag block) pad) block k (rw m)
 
-under-the-mask : (keys : Keys) (listed : ℕ → Bool) (ssrc index : ℕ) (p : List ℕ) → Fits p → UnderTheMask keys listed ssrc index p (cipherOf keys Mask listed ssrc index p)
+under-the-mask : (keys : Keys) (listed : ℕ → Bool) (ssrc index : ℕ) (p : List ℕ) → Fits p → UnderTheMask keys listed ssrc index p (cipherOf CmHmac keys Mask listed ssrc index p)
 under-the-mask keys listed ssrc index p fits =
     let h = layoutOf p in
     let block = blockOf h p in
-    let stream = streamOf keys ssrc index in
-    let header-stream = headerStreamOf keys ssrc index in
+    let stream = streamOf CmHmac keys ssrc index in
+    let header-stream = headerStreamOf CmHmac keys ssrc index in
     let l = drop (h .payload) p in
     let n : length l ≡ length p - h .payload = length-drop (h .payload) p in
     let small : 0 + length l ≤ keystreamEnd = omega (arith, fits .size) in
-    let whole : blockOf h (cipherOf keys Mask listed ssrc index p) ≡ maskedOf listed (h .tag) header-stream block = crypted-block listed stream header-stream p in
+    let whole : blockOf h (cipherOf CmHmac keys Mask listed ssrc index p) ≡ maskedOf listed (h .tag) header-stream block = crypted-block listed stream header-stream p in
     record {
       head = head-stays listed stream header-stream p;
       element =

@@ -1,4 +1,4 @@
--- Document 02, CR 6: "payload, Cryptex and mask use it", and "packets never reach" its LARGE. What the cipher makes of a packet in the form that it has on the
+-- Document 02, CR 6: "payload, Cryptex and mask use it", and "packets never reach" its LARGE. What the first suite's cipher makes of a packet in the form that it has on the
 -- wire, piece by piece what the keystream part gives; and the session keys.
 use mathlib.Core.Path.{_≡_}
 use mathlib.Core.Bool.{Bool, true, false}
@@ -20,6 +20,7 @@ use Rattle.policies.specs.Cryptex.{isCryptex, taggedOf}
 use Rattle.policies.specs.Judging.{judgedOf}
 use Rattle.packet_cipher.specs.declared.cipher.Portion.{Portion}
 use Rattle.packet_cipher.specs.declared.keys.Keys.{Keys}
+use Rattle.suites.specs.declared.suite.Suite.the-variants.{CmHmac}
 use Rattle.packet_cipher.specs.Cipher.{portionOf, cipherOf}
 use Rattle.wire.specs.Wire.{givenBackOf}
 
@@ -43,7 +44,7 @@ stretchedBack keys ssrc index r p = stretchOf (keys .cipher) (keys .salt) ssrc i
 pub record TwoStretches (keys : Keys) (policy : Policy) (listed : ℕ → Bool) (ssrc index : ℕ) (r : Portion) (p : List ℕ) : Type 0 where
   pub front : stretchedFront keys ssrc index r p .number ≡ 0
   pub back : stretchedBack keys ssrc index r p .number ≡ 0
-  pub bytes : cipherOf keys policy listed ssrc index p
+  pub bytes : cipherOf CmHmac keys policy listed ssrc index p
       ≡ take (r .first) p
       ++ (stretchedFront keys ssrc index r p .bytes ++ (take (r .rest - r .stop) (drop (r .stop) p) ++ stretchedBack keys ssrc index r p .bytes))
 
@@ -74,7 +75,7 @@ pub record PacketsAreStretches : Type 0 where
   pub portion : (keys : Keys) (policy : Policy) (listed : ℕ → Bool) (ssrc index : ℕ) (p : List ℕ) → usesMask policy ≡ false → Fits p
       → TwoStretches keys policy listed ssrc index (encryptedOf policy p) p
   pub masked : (keys : Keys) (listed : ℕ → Bool) (ssrc index : ℕ) (p : List ℕ) → Fits p
-      → UnderTheMask keys listed ssrc index p (cipherOf keys Mask listed ssrc index p)
+      → UnderTheMask keys listed ssrc index p (cipherOf CmHmac keys Mask listed ssrc index p)
   -- What goes under the cipher fits, of every packet that is not refused with 2 to 7: on sending the form on the wire, on receiving the bytes before the tag. So no
   -- packet meets LARGE here.
   pub sent : (policy : Policy) (t : ℕ) (p : List ℕ) → ((i : ℕ) → getD p i 0 < 256) → headerNumber (judgedOf Sending policy t p) ≡ 0

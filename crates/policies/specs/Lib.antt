@@ -1,3 +1,4 @@
 pub mod Policies
 pub mod Cryptex
 pub mod Judging
+pub mod Shapes

@@ -10,12 +10,12 @@ use Rattle.memory.specs.Parts.{partAt, placeIn, cut}
 use Rattle.memory.specs.Words.{word, bytesIn, five}
 use Rattle.memory.proofs.Parts.{field-word, field-read}
 use Rattle.packet_cipher.specs.declared.keys.Keys.{Keys}
-use Rattle.session.specs.Memory.{setupLayout, theIds, theCipher, theOwnSalt, theHeaderCipher, theHeaderSalt, theInner, theOuter, size, setupAt}
+use Rattle.session.specs.Memory.{setupLayout, theIds, theCipher, theOwnSalt, theHeaderCipher, theHeaderSalt, theInner, theOuter, theHash, size, setupAt}
 
-keys-cong : {a b c d e f a′ b′ c′ d′ e′ f′ : List ℕ} → a ≡ a′ → b ≡ b′ → c ≡ c′ → d ≡ d′ → e ≡ e′ → f ≡ f′
-    → _≡_ {A = Keys} (record { cipher = a; salt = b; «header_cipher» = c; «header_salt» = d; auth = record { inner = e; outer = f } })
-    (record { cipher = a′; salt = b′; «header_cipher» = c′; «header_salt» = d′; auth = record { inner = e′; outer = f′ } })
-keys-cong p q r t u v = cc
+keys-cong : {a b c d e f g a′ b′ c′ d′ e′ f′ g′ : List ℕ} → a ≡ a′ → b ≡ b′ → c ≡ c′ → d ≡ d′ → e ≡ e′ → f ≡ f′ → g ≡ g′
+    → _≡_ {A = Keys} (record { cipher = a; salt = b; «header_cipher» = c; «header_salt» = d; auth = record { inner = e; outer = f }; hash = g })
+    (record { cipher = a′; salt = b′; «header_cipher» = c′; «header_salt» = d′; auth = record { inner = e′; outer = f′ }; hash = g′ })
+keys-cong p q r t u v w = cc
 
 module _ (words : List ℕ) where
   -- the two words of field k
@@ -24,19 +24,20 @@ module _ (words : List ℕ) where
   two-words k h e f =
       sym (ap₂ f (field-word setupLayout k 0 words h (omega (arith, e))) (field-word setupLayout k 1 words h (omega (arith, e))))
 
-  pub keys-read : {a b c d e f : List ℕ}
+  pub keys-read : {a b c d e f g : List ℕ}
       → a ≡ bytesIn 16 (word words (placeIn setupLayout theCipher + 0)) (word words (placeIn setupLayout theCipher + 1))
       → b ≡ bytesIn 14 (word words (placeIn setupLayout theOwnSalt + 0)) (word words (placeIn setupLayout theOwnSalt + 1))
       → c ≡ bytesIn 16 (word words (placeIn setupLayout theHeaderCipher + 0)) (word words (placeIn setupLayout theHeaderCipher + 1))
       → d ≡ bytesIn 14 (word words (placeIn setupLayout theHeaderSalt + 0)) (word words (placeIn setupLayout theHeaderSalt + 1))
       → e ≡ five (partAt (placeIn setupLayout theInner) 5 words)
       → f ≡ five (partAt (placeIn setupLayout theOuter) 5 words)
-      → _≡_ {A = Keys} (record { cipher = a; salt = b; «header_cipher» = c; «header_salt» = d; auth = record { inner = e; outer = f } }) (setupAt words .keys)
+      → g ≡ bytesIn 16 (word words (placeIn setupLayout theHash + 0)) (word words (placeIn setupLayout theHash + 1))
+      → _≡_ {A = Keys} (record { cipher = a; salt = b; «header_cipher» = c; «header_salt» = d; auth = record { inner = e; outer = f }; hash = g }) (setupAt words .keys)
   unfolding setupAt
-  keys-read p q r t u v =
+  keys-read p q r t u v w =
       keys-cong (p ∙ two-words theCipher (omega arith) refl (bytesIn 16)) (q ∙ two-words theOwnSalt (omega arith) refl (bytesIn 14))
       (r ∙ two-words theHeaderCipher (omega arith) refl (bytesIn 16)) (t ∙ two-words theHeaderSalt (omega arith) refl (bytesIn 14))
-      (u ∙ ap five (sym (field-read setupLayout theInner words (omega arith)))) (v ∙ ap five (sym (field-read setupLayout theOuter words (omega arith))))
+      (u ∙ ap five (sym (field-read setupLayout theInner words (omega arith)))) (v ∙ ap five (sym (field-read setupLayout theOuter words (omega arith)))) (w ∙ two-words theHash (omega arith) refl (bytesIn 16))
 
   pub ids-read : length words ≡ size
       → word words (placeIn setupLayout theIds + 0) ∷ word words (placeIn setupLayout theIds + 1) ∷ word words (placeIn setupLayout theIds + 2) ∷ word words (placeIn setupLayout theIds + 3) ∷ []

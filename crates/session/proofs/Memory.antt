@@ -17,26 +17,33 @@ use Rattle.policies.specs.declared.policy.Way.the-variants.{Sending, Receiving}
 use Rattle.policies.proofs.Layouts.{apart}
 use Rattle.session.specs.declared.place.Place.the-variants.{At, Nowhere}
 use Rattle.session.specs.Session.{Free, Sender, Receiver, Session}
-use Rattle.session.specs.Making.{policyOf, unmade, sessionOf}
+use Rattle.suites.specs.declared.suite.Suite.the-variants.{CmHmac}
+use Rattle.session.specs.Making.{unmade, sessionOf}
 use Rattle.session.specs.Records.{kindOf, hasWay, isFree, isFor, freePlace}
 use Rattle.session.specs.Places.{noRecord, placeFrom}
-use Rattle.session.specs.Memory.{number, recordLayout, theHead, kindAt, headWord, recordAt, setupLayout, theMark, mark, isMark, policyAt, recordPlace, recordsIn, setupAt, decode}
+use Rattle.session.specs.Memory.{number, recordLayout, theHead, kindAt, headWord, recordAt, setupLayout, theMark, mark, isMark, suiteIn, policyIn, suiteAt, policyAt, recordPlace, recordsIn, setupAt, decode}
 use Rattle.session.proofs.Records.{cellAt, record-at, number-at}
 
 -- ---- made or not
 
 pub mark-below : (m : ℕ) → isMark m ≡ true → mark ≤ m
-mark-below m e = go (leb mark m) (leb m (mark + 3)) refl e
+mark-below m e = go (leb mark m) (leb m (mark + 7)) refl e
   where
     go : (a b : Bool) → leb mark m ≡ a → (a && b) ≡ true → mark ≤ m
     go true b h e = leb-true mark m h
     go false b h e = let z : _≡_ {A = ℕ} 0 1 = cc in absurd (omega arith)
 
-pub policy-made : (m : ℕ) → isMark m ≡ true → policyAt m ≡ policyOf (m - mark)
-policy-made m e = ap (λ (b : Bool). pick b (policyOf (m - mark)) Plain) e
+pub policy-made : (m : ℕ) → isMark m ≡ true → policyAt m ≡ policyIn m
+policy-made m e = ap (λ (b : Bool). pick b (policyIn m) Plain) e
 
 pub policy-unmade : (m : ℕ) → isMark m ≡ false → policyAt m ≡ Plain
-policy-unmade m e = ap (λ (b : Bool). pick b (policyOf (m - mark)) Plain) e
+policy-unmade m e = ap (λ (b : Bool). pick b (policyIn m) Plain) e
+
+pub suite-made : (m : ℕ) → isMark m ≡ true → suiteAt m ≡ suiteIn m
+suite-made m e = ap (λ (b : Bool). pick b (suiteIn m) CmHmac) e
+
+pub suite-unmade : (m : ℕ) → isMark m ≡ false → suiteAt m ≡ CmHmac
+suite-unmade m e = ap (λ (b : Bool). pick b (suiteIn m) CmHmac) e
 
 module _ (words : List ℕ) where
   pub made : isMark (word words 0) ≡ true → decode words ≡ record { setup = setupAt words; records = recordsIn words }
@@ -47,17 +54,25 @@ module _ (words : List ℕ) where
   unfolding decode
   not-made e = ap (λ (b : Bool). pick b (record { setup = setupAt words; records = recordsIn words }) (sessionOf unmade)) e
 
-  -- the policy that the first word tells
+  first : number (cut setupLayout words) theMark ≡ word words 0
+  first = field-word setupLayout theMark 0 words (omega arith) (omega arith)
+
+  -- the policy and the suite that the first word tells
   pub policy-is : policyAt (word words 0) ≡ decode words .setup .policy
   unfolding setupAt
   policy-is = go (isMark (word words 0)) refl
     where
-      first : number (cut setupLayout words) theMark ≡ word words 0
-      first = field-word setupLayout theMark 0 words (omega arith) (omega arith)
-
       go : (b : Bool) → isMark (word words 0) ≡ b → policyAt (word words 0) ≡ decode words .setup .policy
-      go true e = policy-made (word words 0) e ∙ ap (λ (m : ℕ). policyOf (m - mark)) (sym first) ∙ sym (ap (λ (s : Session). s .setup .policy) (made e))
+      go true e = policy-made (word words 0) e ∙ ap policyIn (sym first) ∙ sym (ap (λ (s : Session). s .setup .policy) (made e))
       go false e = policy-unmade (word words 0) e ∙ sym (ap (λ (s : Session). s .setup .policy) (not-made e))
+
+  pub suite-is : suiteAt (word words 0) ≡ decode words .setup .suite
+  unfolding setupAt
+  suite-is = go (isMark (word words 0)) refl
+    where
+      go : (b : Bool) → isMark (word words 0) ≡ b → suiteAt (word words 0) ≡ decode words .setup .suite
+      go true e = suite-made (word words 0) e ∙ ap suiteIn (sym first) ∙ sym (ap (λ (s : Session). s .setup .suite) (made e))
+      go false e = suite-unmade (word words 0) e ∙ sym (ap (λ (s : Session). s .setup .suite) (not-made e))
 
 -- ---- the first word of a record
 

@@ -13,10 +13,11 @@ use Rattle.memory.proofs.Bytes.{bytes-kept, five-kept}
 use Rattle.memory.proofs.Parts.{cut-joined, join-length}
 use Rattle.policies.specs.declared.policy.Policy.{Policy}
 use Rattle.policies.specs.declared.policy.Policy.the-variants.{Plain, Cryptex, CryptexRequired, Mask}
-use Rattle.policies.specs.Policies.{policyNumber}
+use Rattle.suites.specs.declared.suite.Suite.{Suite}
+use Rattle.suites.specs.declared.suite.Suite.the-variants.{CmHmac, Gcm}
 use Rattle.session.specs.Session.{Record, Setup, Session}
-use Rattle.session.specs.Making.{policyOf, unmade, sessionOf}
-use Rattle.session.specs.Memory.{each, recordWords, recordAt, setupLayout, mark, isMark, setupFields, setupFrom, front, size, recordsWords, encode, recordsIn, setupAt, decode}
+use Rattle.session.specs.Making.{unmade, sessionOf}
+use Rattle.session.specs.Memory.{each, recordWords, recordAt, setupLayout, markOf, isMark, suiteIn, policyIn, setupFields, setupFrom, front, size, recordsWords, encode, recordsIn, setupAt, decode}
 use Rattle.session.specs.RoundTrip.{SetupFits, RecordFits, Fits, SessionsLast}
 use Rattle.session.proofs.Memory.{not-made}
 use Rattle.session.proofs.Records.{record-kept, record-length}
@@ -38,17 +39,26 @@ records-long (r ∷ l) f = length-append (recordWords r) (recordsWords l) ∙ (l
 
 -- ---- what the session was made from
 
-policy-kept : (p : Policy) → policyOf (mark + policyNumber p - mark) ≡ p
-policy-kept Plain = refl
-policy-kept Cryptex = refl
-policy-kept CryptexRequired = refl
-policy-kept Mask = refl
+-- the eight marks
+each-mark : (P : Suite → Policy → Type 0) → P CmHmac Plain → P CmHmac Cryptex → P CmHmac CryptexRequired → P CmHmac Mask → P Gcm Plain → P Gcm Cryptex → P Gcm CryptexRequired → P Gcm Mask
+    → (s : Suite) (p : Policy) → P s p
+each-mark P a b c d e f g h CmHmac Plain = a
+each-mark P a b c d e f g h CmHmac Cryptex = b
+each-mark P a b c d e f g h CmHmac CryptexRequired = c
+each-mark P a b c d e f g h CmHmac Mask = d
+each-mark P a b c d e f g h Gcm Plain = e
+each-mark P a b c d e f g h Gcm Cryptex = f
+each-mark P a b c d e f g h Gcm CryptexRequired = g
+each-mark P a b c d e f g h Gcm Mask = h
 
-marked : (p : Policy) → isMark (mark + policyNumber p) ≡ true
-marked Plain = refl
-marked Cryptex = refl
-marked CryptexRequired = refl
-marked Mask = refl
+policy-kept : (s : Suite) (p : Policy) → policyIn (markOf s p) ≡ p
+policy-kept = each-mark (λ s p. policyIn (markOf s p) ≡ p) refl refl refl refl refl refl refl refl
+
+suite-kept : (s : Suite) (p : Policy) → suiteIn (markOf s p) ≡ s
+suite-kept = each-mark (λ s p. suiteIn (markOf s p) ≡ s) refl refl refl refl refl refl refl refl
+
+marked : (s : Suite) (p : Policy) → isMark (markOf s p) ≡ true
+marked = each-mark (λ s p. isMark (markOf s p) ≡ true) refl refl refl refl refl refl refl refl
 
 -- what has to come back of a setup's words, one array at a time
 pub record SetupLasts (s : Setup) : Type 0 where
@@ -61,6 +71,7 @@ pub record SetupLasts (s : Setup) : Type 0 where
   pub header-salt : Lasts 14 (s .keys .«header_salt»)
   pub inner : Numbers5 (s .keys .auth .inner)
   pub outer : Numbers5 (s .keys .auth .outer)
+  pub hash : Lasts 16 (s .keys .hash)
 
 fits-last : (s : Setup) → SetupFits s → SetupLasts s
 fits-last s f =
@@ -74,6 +85,7 @@ fits-last s f =
       header-salt = bytes-kept 14 (omega arith) (s .keys .«header_salt») (f .keys .header-salt);
       inner = five-kept (s .keys .auth .inner) (f .keys .inner);
       outer = five-kept (s .keys .auth .outer) (f .keys .outer);
+      hash = bytes-kept 16 (omega arith) (s .keys .hash) (f .keys .hash);
     }
 
 module _ (s : Setup) (lasts : SetupLasts s) where
@@ -84,7 +96,8 @@ module _ (s : Setup) (lasts : SetupLasts s) where
   fields-kept m =
       rw (
         sym m,
-        policy-kept (s .policy),
+        suite-kept (s .suite) (s .policy),
+        policy-kept (s .suite) (s .policy),
         lasts .key,
         lasts .salt,
         lasts .cipher,
@@ -93,6 +106,7 @@ module _ (s : Setup) (lasts : SetupLasts s) where
         lasts .header-salt,
         lasts .inner .kept,
         lasts .outer .kept,
+        lasts .hash,
       )
 
   pub setup-long : length (join (setupFields s)) ≡ front
@@ -101,7 +115,7 @@ module _ (s : Setup) (lasts : SetupLasts s) where
   pub session-kept : (l : List Record) → s .made ≡ true → length l ≡ 32 → Each RecordFits l → decode (join (setupFields s) ++ recordsWords l) ≡ record { setup = s; records = l }
   unfolding decode recordsIn setupAt
   session-kept l m n f =
-      rw (marked (s .policy))
+      rw (marked (s .suite) (s .policy))
       (ap₂ (λ (a : Setup) (b : List Record). record { setup = a; records = b })
       (ap setupFrom (cut-joined setupLayout (setupFields s) (recordsWords l) sizes) ∙ fields-kept m)
       (ap (cellsOf each 32 recordAt) (drop-at (join (setupFields s)) (recordsWords l) front setup-long)

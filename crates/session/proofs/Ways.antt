@@ -21,10 +21,11 @@ use Rattle.replay.specs.Window.{blocks, width}
 use Rattle.policies.specs.declared.policy.Way.{Way}
 use Rattle.policies.specs.declared.policy.Way.the-variants.{Sending, Receiving}
 use Rattle.policies.specs.Judging.{judgedOf}
+use Rattle.suites.specs.Suites.{tagLengthOf}
 use Rattle.wire.specs.Wire.{tagFits}
 use Rattle.session.specs.Session.{Record, Setup, Session}
 use Rattle.session.specs.Records.{Found, none, some, recordFor}
-use Rattle.session.specs.Packets.{tagLength, listedBy, Effect, refuse, give, wireLength, protectAt, protectIn, protectRead, protectEffect, unprotectAt, unprotectIn, unprotectRead, unprotectEffect, Outcome, settled, protectOf, unprotectOf}
+use Rattle.session.specs.Packets.{listedBy, Effect, refuse, give, wireLength, protectAt, protectIn, protectRead, protectEffect, unprotectAt, unprotectIn, unprotectRead, unprotectEffect, Outcome, settled, protectOf, unprotectOf}
 use Rattle.session.specs.Calls.{Left, refusedWith, settledIn, protectCall, unprotectCall}
 use Rattle.session.specs.Memory.{size, decode}
 
@@ -36,19 +37,19 @@ stateBy Receiving r seq = receiveOf blocks width (r .replay) (r .rollover) seq .
 module _ (setup : Setup) (buf : List ℕ) (n : ℕ) where
   -- STREAM and what comes after it; SHORT to ROOM; LENGTH
   abbrev pub inBy : Way → Found → Effect
-  inBy Sending found = protectIn (setup .keys) (setup .policy) (listedBy setup) buf n found
-  inBy Receiving found = unprotectIn (setup .keys) (setup .policy) (listedBy setup) buf n found
+  inBy Sending found = protectIn (setup .suite) (setup .keys) (setup .policy) (listedBy setup) buf n found
+  inBy Receiving found = unprotectIn (setup .suite) (setup .keys) (setup .policy) (listedBy setup) buf n found
 
   abbrev pub readBy : Way → Header → Found → Effect
-  readBy Sending h found = protectRead (setup .keys) (setup .policy) (listedBy setup) buf n h found
-  readBy Receiving h found = unprotectRead (setup .keys) (setup .policy) (listedBy setup) buf n h found
+  readBy Sending h found = protectRead (setup .suite) (setup .keys) (setup .policy) (listedBy setup) buf n h found
+  readBy Receiving h found = unprotectRead (setup .suite) (setup .keys) (setup .policy) (listedBy setup) buf n h found
 
   abbrev pub effectBy : Way → Found → Effect
-  effectBy Sending found = protectEffect (setup .keys) (setup .policy) (listedBy setup) buf n found
-  effectBy Receiving found = unprotectEffect (setup .keys) (setup .policy) (listedBy setup) buf n found
+  effectBy Sending found = protectEffect (setup .suite) (setup .keys) (setup .policy) (listedBy setup) buf n found
+  effectBy Receiving found = unprotectEffect (setup .suite) (setup .keys) (setup .policy) (listedBy setup) buf n found
 
   pub effect-is : (way : Way) (found : Found)
-      → effectBy way found ≡ pick (ltb (length buf) n) (refuse refusal.Length) (readBy way (judgedOf way (setup .policy) tagLength (take n buf)) found)
+      → effectBy way found ≡ pick (ltb (length buf) n) (refuse refusal.Length) (readBy way (judgedOf way (setup .policy) (tagLengthOf (setup .suite)) (take n buf)) found)
   unfolding protectEffect unprotectEffect
   effect-is Sending found = refl
   effect-is Receiving found = refl
@@ -62,13 +63,13 @@ module _ (setup : Setup) (buf : List ℕ) (n : ℕ) where
     picked true d e p q = p
     picked false d e p q = q
 
-    sent-cases : (r : Record) (j : Judged) → OfGiven Sending r → P (protectAt (setup .keys) (setup .policy) (listedBy setup) buf n j (stateBy Sending r (seqOf (take n buf))))
+    sent-cases : (r : Record) (j : Judged) → OfGiven Sending r → P (protectAt (setup .suite) (setup .keys) (setup .policy) (listedBy setup) buf n j (stateBy Sending r (seqOf (take n buf))))
     sent-cases r (NoIndex q) p = refused q
     sent-cases r (Index i) p = p _ _
 
-    received-cases : (r : Record) (j : Judged) → OfGiven Receiving r → P (unprotectAt (setup .keys) (setup .policy) (listedBy setup) buf n j (stateBy Receiving r (seqOf (take n buf))))
+    received-cases : (r : Record) (j : Judged) → OfGiven Receiving r → P (unprotectAt (setup .suite) (setup .keys) (setup .policy) (listedBy setup) buf n j (stateBy Receiving r (seqOf (take n buf))))
     received-cases r (NoIndex q) p = refused q
-    received-cases r (Index i) p = picked (tagFits tagLength (setup .keys) i (take n buf)) _ (refuse refusal.Tag) (p _ _) (refused refusal.Tag)
+    received-cases r (Index i) p = picked (tagFits (setup .suite) (setup .keys) (setup .policy) (ssrcOf (take n buf)) i (take n buf)) _ (refuse refusal.Tag) (p _ _) (refused refusal.Tag)
 
     in-cases : (way : Way) (found : Found) → ((r : Record) → found ≡ some r → OfGiven way r) → P (inBy way found)
     in-cases Sending none p = refused refusal.Stream
@@ -79,12 +80,12 @@ module _ (setup : Setup) (buf : List ℕ) (n : ℕ) where
     read-cases : (way : Way) (h : Header) (found : Found) → P (inBy way found) → P (readBy way h found)
     read-cases Sending (Refused r) found p = refused r
     read-cases Receiving (Refused r) found p = refused r
-    read-cases Sending (Read l) found p = picked (ltb (length buf) (wireLength (setup .policy) buf n)) (refuse refusal.Room) (inBy Sending found) (refused refusal.Room) p
+    read-cases Sending (Read l) found p = picked (ltb (length buf) (wireLength (setup .suite) (setup .policy) buf n)) (refuse refusal.Room) (inBy Sending found) (refused refusal.Room) p
     read-cases Receiving (Read l) found p = p
 
     pub effect-cases : (way : Way) (found : Found) → ((r : Record) → found ≡ some r → OfGiven way r) → P (effectBy way found)
     effect-cases way found p =
-        let j : Header = judgedOf way (setup .policy) tagLength (take n buf) in
+        let j : Header = judgedOf way (setup .policy) (tagLengthOf (setup .suite)) (take n buf) in
         rw (effect-is way found)
         (picked (ltb (length buf) n) (refuse refusal.Length) (readBy way j found) (refused refusal.Length) (read-cases way j found (in-cases way found p)))
 

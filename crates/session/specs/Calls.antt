@@ -5,7 +5,8 @@ use Prim.Native.Nat.{ℕ, _+_}
 use lib.Dec.{eqb, ltb}
 use lib.ListN.{length, getD, take}
 use Rattle.bits.specs.Pick.{pick}
-use Rattle.bits.specs.Refusals.{wrongMemory, wrongWay}
+use Rattle.bits.specs.Refusals.{wrongMemory, wrongWay, wrongSuite}
+use Rattle.suites.specs.Suites.{suiteOf}
 use Rattle.memory.specs.Parts.{withPart, placeIn}
 use Rattle.rtp_header.specs.Header.{ssrcOf}
 use Rattle.policies.specs.declared.policy.Way.{Way}
@@ -60,10 +61,13 @@ withRecordAt words i r = withPart (recordPlace i) (recordWords r) words
 
 -- ---- make
 
-unfoldable pub makeCall : List ℕ → List ℕ → List ℕ → ℕ → List ℕ → Left
-makeCall words key salt policy ids =
+-- memory's size and the suite's number first, which leave memory as it is
+unfoldable pub makeCall : List ℕ → List ℕ → List ℕ → ℕ → List ℕ → ℕ → Left
+makeCall words key salt policy ids suite =
     pick (eqb (length words) size)
-    (withoutBuffer (makeOf key salt policy ids .number) (encode (makeOf key salt policy ids .session)))
+    (pick (ltb suite 2)
+    (withoutBuffer (makeOf (suiteOf suite) key salt policy ids .number) (encode (makeOf (suiteOf suite) key salt policy ids .session)))
+    (withoutBuffer wrongSuite words))
     (withoutBuffer wrongMemory words)
 
 -- ---- add

@@ -10,6 +10,9 @@ use Rattle.memory.specs.Parts.{cellsOf, total, cut, join}
 use Rattle.memory.specs.Words.{word, bytesIn, halves, five}
 use Rattle.replay.specs.Track.{stateIn, stateWords}
 use Rattle.replay.specs.Window.{blocks}
+use Rattle.suites.specs.declared.suite.Suite.{Suite}
+use Rattle.suites.specs.declared.suite.Suite.the-variants.{CmHmac}
+use Rattle.suites.specs.Suites.{suiteNumber, suiteOf}
 use Rattle.policies.specs.declared.policy.Policy.{Policy}
 use Rattle.policies.specs.declared.policy.Policy.the-variants.{Plain}
 use Rattle.policies.specs.Policies.{policyNumber}
@@ -82,7 +85,7 @@ recordAt words = recordFrom (cut recordLayout words)
 
 abbrev pub setupLayout : List ℕ
 setupLayout =
-    1  -- the mark, plus the number of the policy
+    1  -- the mark, plus the number of the policy and four times that of the suite
     ∷ 2  -- master key
     ∷ 2  -- master salt
     ∷ 4  -- ids, a bit each
@@ -92,6 +95,7 @@ setupLayout =
     ∷ 2  -- header salt
     ∷ 5  -- HMAC, inner state
     ∷ 5  -- HMAC, outer state
+    ∷ 2  -- GCM, hash subkey
     ∷ []
 
 abbrev pub theMark : ℕ
@@ -124,20 +128,36 @@ theInner = 8
 abbrev pub theOuter : ℕ
 theOuter = 9
 
--- "Delugash" in ASCII. Memory whose first word is none of the four marks, as memory full of zeros, is no made session.
+abbrev pub theHash : ℕ
+theHash = 10
+
+-- "Delugash" in ASCII. Memory whose first word is none of the eight marks, as memory full of zeros, is no made session. No call writes the last one, the mask with
+-- GCM: who writes it himself has a session that hides nothing of a header.
 abbrev pub mark : ℕ
 mark = 0x44656C7567617368
 
-abbrev pub isMark : ℕ → Bool
-isMark m = leb mark m && leb m (mark + 3)
+abbrev pub markOf : Suite → Policy → ℕ
+markOf suite policy = mark + (policyNumber policy + 4 * suiteNumber suite)
 
--- the unmade session has policy 0
+abbrev pub isMark : ℕ → Bool
+isMark m = leb mark m && leb m (mark + 7)
+
+abbrev pub suiteIn : ℕ → Suite
+suiteIn m = suiteOf ((m - mark) / 4)
+
+abbrev pub policyIn : ℕ → Policy
+policyIn m = policyOf ((m - mark) % 4)
+
+-- the unmade session has the first suite and policy 0
+abbrev pub suiteAt : ℕ → Suite
+suiteAt m = pick (isMark m) (suiteIn m) CmHmac
+
 abbrev pub policyAt : ℕ → Policy
-policyAt m = pick (isMark m) (policyOf (m - mark)) Plain
+policyAt m = pick (isMark m) (policyIn m) Plain
 
 abbrev pub setupFields : Setup → List (List ℕ)
 setupFields s =
-    ((mark + policyNumber (s .policy)) ∷ [])
+    (markOf (s .suite) (s .policy) ∷ [])
     ∷ halves (s .key)
     ∷ halves (s .salt)
     ∷ s .ids
@@ -147,6 +167,7 @@ setupFields s =
     ∷ halves (s .keys .«header_salt»)
     ∷ s .keys .auth .inner
     ∷ s .keys .auth .outer
+    ∷ halves (s .keys .hash)
     ∷ []
 
 -- n bytes of field k
@@ -161,13 +182,15 @@ keysFrom fields =
       «header_cipher» = bytesAt 16 fields theHeaderCipher;
       «header_salt» = bytesAt 14 fields theHeaderSalt;
       auth = record { inner = five (getD fields theInner []); outer = five (getD fields theOuter []) };
+      hash = bytesAt 16 fields theHash;
     }
 
 abbrev pub setupFrom : List (List ℕ) → Setup
 setupFrom fields =
     record {
       made = true;
-      policy = policyOf (number fields theMark - mark);
+      suite = suiteIn (number fields theMark);
+      policy = policyIn (number fields theMark);
       key = bytesAt 16 fields theKey;
       salt = bytesAt 14 fields theSalt;
       ids = getD fields theIds [];

@@ -1,4 +1,4 @@
--- Document 01, "Numbers given back", 1 to 14: protect and unprotect in a buffer whose first n bytes are the packet.
+-- Document 01, "Numbers given back", 1 to 14, with document 02, CR 3: protect and unprotect in a buffer whose first n bytes are the packet.
 use mathlib.Core.Bool.{Bool}
 use mathlib.Core.List.{List, _++_}
 use Prim.Native.Nat.{ℕ, _+_, _-_}
@@ -19,6 +19,8 @@ use Rattle.replay.specs.Receive.{receiveOf}
 use Rattle.replay.specs.Send.{sendOf}
 use Rattle.replay.specs.Window.{blocks, width}
 use Rattle.packet_cipher.specs.declared.keys.Keys.{Keys}
+use Rattle.suites.specs.declared.suite.Suite.{Suite}
+use Rattle.suites.specs.Suites.{tagLengthOf}
 use Rattle.policies.specs.declared.policy.Policy.{Policy}
 use Rattle.policies.specs.declared.policy.Way.{Way}
 use Rattle.policies.specs.declared.policy.Way.the-variants.{Sending, Receiving}
@@ -26,10 +28,6 @@ use Rattle.policies.specs.Judging.{addedOf, judgedOf}
 use Rattle.wire.specs.Wire.{wireOf, restoreOf, tagFits}
 use Rattle.session.specs.Session.{Setup, Session}
 use Rattle.session.specs.Records.{Found, none, some, recordFor, storeFor}
-
--- bytes of the authentication tag of AES_CM_128_HMAC_SHA1_80 (80 bits)
-abbrev pub tagLength : ℕ
-tagLength = 10
 
 -- What a call does to its buffer and its stream's record: a refusal, or a length, and buffer and replay state afterwards.
 pub data Effect : Type 0 where
@@ -41,18 +39,18 @@ abbrev pub listedBy : Setup → ℕ → Bool
 listedBy setup = listedIn (setup .ids)
 
 -- the protected length
-abbrev pub wireLength : Policy → List ℕ → ℕ → ℕ
-wireLength policy buf n = n + addedOf Sending policy tagLength (layoutOf (take n buf))
+abbrev pub wireLength : Suite → Policy → List ℕ → ℕ → ℕ
+wireLength suite policy buf n = n + addedOf Sending policy (tagLengthOf suite) (layoutOf (take n buf))
 
-module _ (keys : Keys) (policy : Policy) (listed : ℕ → Bool) (buf : List ℕ) (n : ℕ) where
+module _ (suite : Suite) (keys : Keys) (policy : Policy) (listed : ℕ → Bool) (buf : List ℕ) (n : ℕ) where
   -- ---- protect
 
   -- ORDER and WORN; then the wire bytes, and what follows them in the buffer stays
   abbrev pub protectAt : Judged → ReplayState → Effect
   protectAt (NoIndex r) state = refuse r
   protectAt (Index i) state =
-      give (wireLength policy buf n)
-      (wireOf tagLength keys policy listed (ssrcOf (take n buf)) i (take n buf) ++ drop (wireLength policy buf n) buf)
+      give (wireLength suite policy buf n)
+      (wireOf suite keys policy listed (ssrcOf (take n buf)) i (take n buf) ++ drop (wireLength suite policy buf n) buf)
       state
 
   -- STREAM
@@ -64,13 +62,13 @@ module _ (keys : Keys) (policy : Policy) (listed : ℕ → Bool) (buf : List ℕ
   -- SHORT to LARGE, then ROOM
   abbrev pub protectRead : Header → Found → Effect
   protectRead (Refused r) found = refuse r
-  protectRead (Read h) found = pick (ltb (length buf) (wireLength policy buf n)) (refuse refusal.Room) (protectIn found)
+  protectRead (Read h) found = pick (ltb (length buf) (wireLength suite policy buf n)) (refuse refusal.Room) (protectIn found)
 
   -- LENGTH
   unfoldable pub protectEffect : Found → Effect
   protectEffect found =
       pick (ltb (length buf) n) (refuse refusal.Length)
-      (protectRead (judgedOf Sending policy tagLength (take n buf)) found)
+      (protectRead (judgedOf Sending policy (tagLengthOf suite) (take n buf)) found)
 
   -- ---- unprotect
 
@@ -78,9 +76,9 @@ module _ (keys : Keys) (policy : Policy) (listed : ℕ → Bool) (buf : List ℕ
   abbrev pub unprotectAt : Judged → ReplayState → Effect
   unprotectAt (NoIndex r) state = refuse r
   unprotectAt (Index i) state =
-      pick (tagFits tagLength keys i (take n buf))
-      (give (n - tagLength)
-      (restoreOf tagLength keys policy listed (ssrcOf (take n buf)) i (take n buf) ++ drop (n - tagLength) buf)
+      pick (tagFits suite keys policy (ssrcOf (take n buf)) i (take n buf))
+      (give (n - tagLengthOf suite)
+      (restoreOf suite keys policy listed (ssrcOf (take n buf)) i (take n buf) ++ drop (n - tagLengthOf suite) buf)
       state)
       (refuse refusal.Tag)
 
@@ -100,7 +98,7 @@ module _ (keys : Keys) (policy : Policy) (listed : ℕ → Bool) (buf : List ℕ
   unfoldable pub unprotectEffect : Found → Effect
   unprotectEffect found =
       pick (ltb (length buf) n) (refuse refusal.Length)
-      (unprotectRead (judgedOf Receiving policy tagLength (take n buf)) found)
+      (unprotectRead (judgedOf Receiving policy (tagLengthOf suite) (take n buf)) found)
 
 -- ---- the calls
 
@@ -126,9 +124,9 @@ settled s buf ssrc way (give m after state) =
 unfoldable pub protectOf : Session → List ℕ → ℕ → Outcome
 protectOf s buf n =
     settled s buf (ssrcOf (take n buf)) Sending
-    (protectEffect (s .setup .keys) (s .setup .policy) (listedBy (s .setup)) buf n (recordFor (s .records) (ssrcOf (take n buf)) Sending))
+    (protectEffect (s .setup .suite) (s .setup .keys) (s .setup .policy) (listedBy (s .setup)) buf n (recordFor (s .records) (ssrcOf (take n buf)) Sending))
 
 unfoldable pub unprotectOf : Session → List ℕ → ℕ → Outcome
 unprotectOf s buf n =
     settled s buf (ssrcOf (take n buf)) Receiving
-    (unprotectEffect (s .setup .keys) (s .setup .policy) (listedBy (s .setup)) buf n (recordFor (s .records) (ssrcOf (take n buf)) Receiving))
+    (unprotectEffect (s .setup .suite) (s .setup .keys) (s .setup .policy) (listedBy (s .setup)) buf n (recordFor (s .records) (ssrcOf (take n buf)) Receiving))

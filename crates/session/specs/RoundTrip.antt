@@ -22,6 +22,7 @@ pub record KeysFit (k : Keys) : Type 0 where
   pub header-salt : Array 14 256 (k .«header_salt»)
   pub inner : Array 5 (2 ^ 32) (k .auth .inner)
   pub outer : Array 5 (2 ^ 32) (k .auth .outer)
+  pub hash : Array 16 256 (k .hash)
 
 pub record SetupFits (s : Setup) : Type 0 where
   pub key : Array 16 256 (s .key)

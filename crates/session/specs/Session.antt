@@ -1,8 +1,9 @@
--- Document 01, "The library's work": a session, what it is made from, and its places for stream records.
+-- Document 01, "The library's work", with document 02, CR 3: a session, what it is made from, and its places for stream records.
 use mathlib.Core.Bool.{Bool}
 use mathlib.Core.List.{List}
 use Prim.Native.Nat.{ℕ}
 use Rattle.replay.specs.State.{ReplayState}
+use Rattle.suites.specs.declared.suite.Suite.{Suite}
 use Rattle.policies.specs.declared.policy.Policy.{Policy}
 use Rattle.packet_cipher.specs.declared.keys.Keys.{Keys}
 
@@ -19,10 +20,11 @@ pub record Record : Type 0 where
   pub rollover : ℕ
   pub replay : ReplayState
 
--- Whether it was made, policy, master key, master salt and ids, and the session keys derived from them. No call but make changes it.
+-- Whether it was made, suite, policy, master key, master salt (a short one with its zeros, `Making.fullSalt`) and ids, and the session keys derived from them. No call but make changes it.
 -- Bit id % 64 of word id / 64 of `ids` says whether an id is in the set.
 pub record Setup : Type 0 where
   pub made : Bool
+  pub suite : Suite
   pub policy : Policy
   pub key : List ℕ
   pub salt : List ℕ

@@ -1,5 +1,6 @@
-// What is read of a session's memory before its records: whether it was made, the policy, the session keys and the ids.
+// What is read of a session's memory before its records: whether it was made, the suite, the policy, the session keys and the ids.
 use crate::layout::CIPHER;
+use crate::layout::HASH;
 use crate::layout::HEADER_CIPHER;
 use crate::layout::HEADER_SALT;
 use crate::layout::IDS;
@@ -12,13 +13,15 @@ use memory::words::bytes14;
 use memory::words::bytes16;
 use packet_cipher::keys::Keys;
 use policies::policy::Policy;
+use suites::suite::Suite;
+use suites::suite::suite_of;
 ghost use mathlib.Core.Path.{_≡_};
 ghost use Prim.Native.Nat.{_+_, _%_, _^_, _≤_};
 ghost use lib.ListN.{length};
 ghost use Rattle.memory.specs.Parts.{partAt};
 ghost use Rattle.memory.specs.Words.{five};
 ghost use Rattle.session.specs.Making.{policyOf};
-ghost use Rattle.session.specs.Memory.{isMark, policyAt, size, setupAt};
+ghost use Rattle.session.specs.Memory.{isMark, suiteAt, policyAt, size, setupAt};
 
 // A made session has this first word.
 pub fn is_made(first: u64) -> bool
@@ -27,7 +30,7 @@ pub fn is_made(first: u64) -> bool
     if first < MARK {
         return false;
     }
-    first <= MARK + 3
+    first <= MARK + 7
 }
 
 fn policy_of(policy: u64) -> Policy
@@ -50,9 +53,19 @@ pub fn load_policy(first: u64) -> Policy
     ensures { λ r. ⌜ r ≡ policyAt first ⌝ }
 {
     if is_made(first) {
-        return policy_of(first - MARK);
+        return policy_of((first - MARK) % 4);
     }
     Policy::Plain
+}
+
+// The suite; that of the unmade session where memory holds no made one.
+pub fn load_suite(first: u64) -> Suite
+    ensures { λ r. ⌜ r ≡ suiteAt first ⌝ }
+{
+    if is_made(first) {
+        return suite_of((first - MARK) / 4);
+    }
+    Suite::CmHmac
 }
 
 // The 32-bit number in a word.
@@ -87,6 +100,7 @@ pub fn keys_of(session: &[u64]) -> Keys
     let header_salt = bytes14(session[HEADER_SALT], session[HEADER_SALT + 1]);
     let inner = five_at(session, INNER);
     let outer = five_at(session, OUTER);
+    let hash = bytes16(session[HASH], session[HASH + 1]);
     let auth = KeyStates {
         inner: inner,
         outer: outer,
@@ -97,6 +111,7 @@ pub fn keys_of(session: &[u64]) -> Keys
         header_cipher: header_cipher,
         header_salt: header_salt,
         auth: auth,
+        hash: hash,
     }
 }
 

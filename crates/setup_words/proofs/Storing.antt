@@ -5,38 +5,19 @@ use mathlib.Core.List.{List, _++_, append-nil, map}
 use Prim.Native.Nat.{ℕ, zero, suc, _+_, _*_, _≤_}
 use native.Mathlib.Nat.{mul-suc}
 use native.Mathlib.Omega.{arith}
-use borrow.Author.Tests.{eqb-true, eqb-false}
-use lib.Dec.{eqb}
 use lib.ListN.{length, drop, replicate, length-replicate, replicate-append-replicate}
 use Rattle.bits.specs.Lists.{Each}
-use Rattle.bits.specs.Pick.{pick}
 use Rattle.memory.specs.Parts.{withPart, join}
-use Rattle.policies.specs.Policies.{policyNumber}
-use Rattle.policies.specs.declared.policy.Policy.the-variants.{Plain, Cryptex, CryptexRequired, Mask}
 use Rattle.replay.specs.Track.{stateWords}
 use Rattle.replay.specs.Window.{blocks}
 use Rattle.replay.proofs.Tracks.{fresh-blocks}
 use Rattle.session.specs.Session.{Setup}
 use Rattle.session.specs.Records.{freePlace}
-use Rattle.session.specs.Making.{policyOf}
 use Rattle.session.specs.Memory.{each, recordWords, setupLayout, setupFields, front, size, recordsWords, encode, decode}
 use Rattle.session.specs.RoundTrip.{RecordFits}
 use Rattle.session.proofs.RoundTrip.{SetupLasts, setup-long, session-kept}
 use Rattle.setup_words.specs.Steps.{Stored}
 use Rattle.memory.proofs.Writing.{puts, put-all}
-
-pub policy-number : (n : ℕ) → n ≤ 3 → policyNumber (policyOf n) ≡ n
-policy-number n h = go (eqb n 0) (eqb n 1) (eqb n 2) refl refl refl
-  where
-    go : (a b c : Bool) → eqb n 0 ≡ a → eqb n 1 ≡ b → eqb n 2 ≡ c → policyNumber (pick a Plain (pick b Cryptex (pick c CryptexRequired Mask))) ≡ n
-    go true b c e f g = sym (eqb-true n 0 e)
-    go false true c e f g = sym (eqb-true n 1 f)
-    go false false true e f g = sym (eqb-true n 2 g)
-    go false false false e f g =
-        let x = eqb-false n 0 e in
-        let y = eqb-false n 1 f in
-        let z = eqb-false n 2 g in
-        omega arith
 
 -- a place without a record is zeros
 free-words : (n : ℕ) → recordsWords (replicate n freePlace) ≡ replicate (each * n) 0

@@ -5,6 +5,7 @@ use memory::words::halves16;
 use packet_cipher::keys::Keys;
 use session::layout::CIPHER;
 use session::layout::FRONT;
+use session::layout::HASH;
 use session::layout::HEADER_CIPHER;
 use session::layout::HEADER_SALT;
 use session::layout::IDS;
@@ -14,6 +15,8 @@ use session::layout::MASTER_KEY;
 use session::layout::MASTER_SALT;
 use session::layout::OUTER;
 use session::layout::SALT;
+use suites::suite::Suite;
+use suites::suite::suite_number;
 ghost use mathlib.Core.Path.{_≡_};
 ghost use Prim.Native.Nat.{_+_, _≤_};
 ghost use lib.ListN.{replicate};
@@ -55,6 +58,7 @@ fn with_state(words: [u64; FRONT], at: usize, state: [u32; 5]) -> [u64; FRONT]
 
 // Before zeros, so that no place holds a record, they are the session's memory.
 pub fn front_words(
+    suite: Suite,
     policy: u64,
     key: [u8; 16],
     salt: [u8; 14],
@@ -62,7 +66,7 @@ pub fn front_words(
     keys: Keys,
 ) -> [u64; FRONT]
     requires { ⌜ policy ≤ 3 ⌝ }
-    ensures { λ r. ⌜ Stored (setupWith policy key salt ids keys) (withPart 0 r (replicate size 0)) ⌝ }
+    ensures { λ r. ⌜ Stored (setupWith suite policy key salt ids keys) (withPart 0 r (replicate size 0)) ⌝ }
 {
     let cipher = keys.cipher;
     let own_salt = keys.salt;
@@ -71,8 +75,9 @@ pub fn front_words(
     let auth = keys.auth;
     let inner = auth.inner;
     let outer = auth.outer;
+    let hash = keys.hash;
     let mut words = [0u64; FRONT];
-    words[0] = MARK + policy;
+    words[0] = MARK + (policy + 4 * suite_number(suite));
     words = with_two(words, MASTER_KEY, halves16(key));
     words = with_two(words, MASTER_SALT, halves14(salt));
     copy(&mut words[IDS..CIPHER], &ids);
@@ -81,5 +86,6 @@ pub fn front_words(
     words = with_two(words, HEADER_CIPHER, halves16(header_cipher));
     words = with_two(words, HEADER_SALT, halves14(header_salt));
     words = with_state(words, INNER, inner);
-    with_state(words, OUTER, outer)
+    words = with_state(words, OUTER, outer);
+    with_two(words, HASH, halves16(hash))
 }

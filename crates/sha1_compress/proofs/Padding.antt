@@ -8,19 +8,13 @@ use lib.ListN.{length, set, take, drop, replicate, length-append, length-drop, l
 use lib.Seq.{paste, drop-drop, take-all, set-at, take-at, drop-at, drop-length, length-take-le, take-nil}
 use Rattle.bits.specs.BigEndian.{toBytes}
 use Rattle.bits.proofs.BigEndian.{length-to}
+use Rattle.bits.proofs.Lists.{drop-replicate}
 use Rattle.sha1_compress.specs.Message.{zerosOf, paddingOf, padOf}
 use Rattle.sha1_compress.specs.Hash.{blocksOf, startOf, digestOf, sha1Of}
 use Rattle.sha1_compress.specs.Steps.{closedOf, hashFrom}
 use Rattle.sha1_compress.proofs.Blocks.{blocks-front, blocks-add}
 
 -- the buffer
-pub drop-replicate : (i n z : ℕ) → i ≤ n → drop i (replicate n z) ≡ replicate (n - i) z
-drop-replicate i n z h =
-    let e : i + (n - i) ≡ n = omega arith in
-    ap (λ (k : ℕ). drop i (replicate k z)) (sym e)
-    ∙ ap (drop i) (sym (replicate-append-replicate i (n - i) z))
-    ∙ drop-at (replicate i z) (replicate (n - i) z) i (length-replicate i z)
-
 -- what pasting s over the zeros after p gives
 pub filled-more : (p s y : List ℕ) (k m : ℕ) → length p ≡ k → length s ≡ m → k + m ≤ 128
     → y ≡ paste (p ++ replicate (128 - k) 0) k s m → y ≡ (p ++ s) ++ replicate (128 - (k + m)) 0
@@ -30,7 +24,7 @@ filled-more p s y k m lp ls b e =
     e
     ∙ ap₂ (λ (u v : List ℕ). u ++ v)
     (ap₂ (λ (u v : List ℕ). u ++ v) (take-at p z k lp) (take-all m s (omega arith)))
-    (sym (drop-drop m k (p ++ z)) ∙ ap (drop m) (drop-at p z k lp) ∙ drop-replicate m (128 - k) 0 (omega arith) ∙ ap (λ (j : ℕ). replicate j 0) en)
+    (sym (drop-drop m k (p ++ z)) ∙ ap (drop m) (drop-at p z k lp) ∙ drop-replicate m (128 - k) 0 ∙ ap (λ (j : ℕ). replicate j 0) en)
 
 -- how many zeros the padding has where the end is in one block or in two, and that whole blocks before do not change it
 pub one-block : (m : ℕ) → m < 56 → 64 * 1 ≡ m + 9 + zerosOf m

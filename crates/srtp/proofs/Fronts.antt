@@ -1,5 +1,5 @@
 -- What the front of a packet call found decides the call: for both ways at once.
-use mathlib.Core.Path.{_≡_, refl, sym, ap, _∙_}
+use mathlib.Core.Path.{_≡_, refl, sym, ap, ap₂, _∙_}
 use mathlib.Core.Bool.{Bool, true, false}
 use mathlib.Core.List.{List}
 use Prim.Native.Nat.{ℕ, _+_, _≤_}
@@ -27,12 +27,14 @@ use Rattle.session.specs.declared.answer.Answer.{Answer as Given}
 use Rattle.session.specs.declared.place.Place.{Place}
 use Rattle.session.specs.declared.place.Place.the-variants.{At, Nowhere}
 use Rattle.session.specs.Calls.{Left, refusedWith, Gives, settledIn}
-use Rattle.session.specs.Memory.{policyAt, size, decode}
-use Rattle.session.specs.Packets.{tagLength, wireLength, Effect, refuse, give, settled}
+use Rattle.suites.specs.declared.suite.Suite.{Suite}
+use Rattle.suites.specs.Suites.{tagLengthOf}
+use Rattle.session.specs.Memory.{suiteAt, policyAt, size, decode}
+use Rattle.session.specs.Packets.{wireLength, Effect, refuse, give, settled}
 use Rattle.session.specs.Places.{noRecord, placeFrom}
 use Rattle.session.specs.Records.{isFor, none, some, recordFor}
 use Rattle.session.specs.Session.{Session}
-use Rattle.session.proofs.Memory.{made, policy-is, placed-made}
+use Rattle.session.proofs.Memory.{made, policy-is, suite-is, placed-made}
 use Rattle.session.proofs.Places.{first-here, nowhere, stored-there}
 use Rattle.session.proofs.Ways.{inBy, readBy, callBy, effect-is, call-is, outcome-is}
 use Rattle.front.specs.declared.open.Opened.{Opened}
@@ -70,8 +72,8 @@ module _ (words buf : List ℕ) (n : ℕ) where
     its-effect = go way
       where
         go : (v : Way) → inBy (s .setup) buf n v (some (getD (s .records) i noRecord)) ≡ effectAt v words i buf n
-        go Sending = rw (sym (policy-is words), made words (placed-made words x way i here))
-        go Receiving = rw (sym (policy-is words), made words (placed-made words x way i here))
+        go Sending = rw (sym (policy-is words), sym (suite-is words), made words (placed-made words x way i here))
+        go Receiving = rw (sym (policy-is words), sym (suite-is words), made words (placed-made words x way i here))
 
   -- ---- what the front answered
 
@@ -99,7 +101,7 @@ module _ (words buf : List ℕ) (n : ℕ) where
 
   -- SHORT to LARGE, then ROOM
   module _ (inside : n ≤ length buf) where
-    read-left : (way : Way) (j : Header) → judgedOf way (policyAt (word words 0)) tagLength (take n buf) ≡ j
+    read-left : (way : Way) (j : Header) → judgedOf way (policyAt (word words 0)) (tagLengthOf (suiteAt (word words 0))) (take n buf) ≡ j
         → settledBy way (readBy (s .setup) buf n way j (recordFor (s .records) x way)) ≡ endedBy way (openRead way words buf n j)
     read-left Sending (Refused r) e = refused-left Sending r
     read-left Receiving (Refused r) e = refused-left Receiving r
@@ -108,9 +110,9 @@ module _ (words buf : List ℕ) (n : ℕ) where
         placed-left Receiving h (placeFrom 0 (s .records) x Receiving) refl
         ∙ sym (ap (λ (b : Bool). endedBy Receiving (pick b (shut refusal.Room) (openAt Receiving words (take n buf) h (placeFrom 0 (s .records) x Receiving)))) z)
     read-left Sending (Read h) e =
-        let l : wireLength (s .setup .policy) buf n ≡ n + addedOf Sending (policyAt (word words 0)) tagLength h =
-        ap (λ (p : Policy). wireLength p buf n) (sym (policy-is words)) ∙ wire-length (policyAt (word words 0)) buf n h e in
-        rw l (go (ltb (length buf) (n + addedOf Sending (policyAt (word words 0)) tagLength h)))
+        let l : wireLength (s .setup .suite) (s .setup .policy) buf n ≡ n + addedOf Sending (policyAt (word words 0)) (tagLengthOf (suiteAt (word words 0))) h =
+        ap₂ (λ (q : Suite) (p : Policy). wireLength q p buf n) (sym (suite-is words)) (sym (policy-is words)) ∙ wire-length (suiteAt (word words 0)) (policyAt (word words 0)) buf n h e in
+        rw l (go (ltb (length buf) (n + addedOf Sending (policyAt (word words 0)) (tagLengthOf (suiteAt (word words 0))) h)))
       where
         go : (b : Bool) → settledBy Sending (pick b (refuse refusal.Room) (inBy (s .setup) buf n Sending (recordFor (s .records) x Sending)))
             ≡ endedBy Sending (pick b (shut refusal.Room) (openAt Sending words (take n buf) h (placeFrom 0 (s .records) x Sending)))
@@ -119,14 +121,14 @@ module _ (words buf : List ℕ) (n : ℕ) where
 
   -- LENGTH, and the memory's size
   abbrev lengthBy : Way → Effect
-  lengthBy way = pick (ltb (length buf) n) (refuse refusal.Length) (readBy (s .setup) buf n way (judgedOf way (policyAt (word words 0)) tagLength (take n buf)) (recordFor (s .records) x way))
+  lengthBy way = pick (ltb (length buf) n) (refuse refusal.Length) (readBy (s .setup) buf n way (judgedOf way (policyAt (word words 0)) (tagLengthOf (suiteAt (word words 0))) (take n buf)) (recordFor (s .records) x way))
 
   length-left : (way : Way) → settledBy way (lengthBy way)
-      ≡ endedBy way (pick (ltb (length buf) n) (shut refusal.Length) (openRead way words buf n (judgedOf way (policyAt (word words 0)) tagLength (take n buf))))
+      ≡ endedBy way (pick (ltb (length buf) n) (shut refusal.Length) (openRead way words buf n (judgedOf way (policyAt (word words 0)) (tagLengthOf (suiteAt (word words 0))) (take n buf))))
   length-left way = go (ltb (length buf) n) refl
     where
       j : Header
-      j = judgedOf way (policyAt (word words 0)) tagLength (take n buf)
+      j = judgedOf way (policyAt (word words 0)) (tagLengthOf (suiteAt (word words 0))) (take n buf)
 
       go : (b : Bool) → ltb (length buf) n ≡ b → settledBy way (pick b (refuse refusal.Length) (readBy (s .setup) buf n way j (recordFor (s .records) x way)))
           ≡ endedBy way (pick b (shut refusal.Length) (openRead way words buf n j))
@@ -136,7 +138,7 @@ module _ (words buf : List ℕ) (n : ℕ) where
   sized-call : (way : Way) → callBy way words buf n ≡ pick (eqb (length words) size) (settledBy way (lengthBy way)) (refusedWith wrongMemory words buf)
   sized-call way =
       call-is way words buf n
-      ∙ rw (outcome-is way s buf n, effect-is (s .setup) buf n way (recordFor (s .records) x way), policy-is words)
+      ∙ rw (outcome-is way s buf n, effect-is (s .setup) buf n way (recordFor (s .records) x way), policy-is words, suite-is words)
 
   fronted : (way : Way) → callBy way words buf n ≡ endedBy way (openOf way words buf n)
   unfolding openOf
@@ -145,7 +147,7 @@ module _ (words buf : List ℕ) (n : ℕ) where
       go : (b : Bool) → pick b (settledBy way (lengthBy way)) (refusedWith wrongMemory words buf)
           ≡ endedBy way
           (pick b
-          (pick (ltb (length buf) n) (shut refusal.Length) (openRead way words buf n (judgedOf way (policyAt (word words 0)) tagLength (take n buf))))
+          (pick (ltb (length buf) n) (shut refusal.Length) (openRead way words buf n (judgedOf way (policyAt (word words 0)) (tagLengthOf (suiteAt (word words 0))) (take n buf))))
           noMemory)
       go true = length-left way
       go false = refl

@@ -25,8 +25,10 @@ use Rattle.policies.specs.Judging.{addedOf, judgedOf}
 use Rattle.wire.specs.Wire.{wireOf, restoreOf, tagFits}
 use Rattle.wire.proofs.Tagging.{judged-layout}
 use Rattle.session.specs.Calls.{Gives}
-use Rattle.session.specs.Memory.{policyAt, setupAt}
-use Rattle.session.specs.Packets.{tagLength, wireLength, Effect, refuse, give}
+use Rattle.suites.specs.declared.suite.Suite.{Suite}
+use Rattle.suites.specs.Suites.{tagLengthOf}
+use Rattle.session.specs.Memory.{suiteAt, policyAt, setupAt}
+use Rattle.session.specs.Packets.{wireLength, Effect, refuse, give}
 use Rattle.records.specs.Tracks.{recordIn, judgedBy, committedBy}
 use Rattle.session.specs.Calls.{withReplayAt}
 use Rattle.streams.specs.Steps.{effectAt, leftBy, sentAs, receivedAs}
@@ -34,11 +36,15 @@ use Rattle.streams.specs.Steps.{effectAt, leftBy, sentAs, receivedAs}
 -- ---- the effect
 
 -- the protected length, in the layout that was read
-pub wire-length : (policy : Policy) (buf : List ℕ) (n : ℕ) (h : Layout) → judgedOf Sending policy tagLength (take n buf) ≡ Read h
-    → wireLength policy buf n ≡ n + addedOf Sending policy tagLength h
-wire-length policy buf n h read = ap (λ (l : Layout). n + addedOf Sending policy tagLength l) (sym (judged-layout Sending policy tagLength (take n buf) h read))
+pub wire-length : (suite : Suite) (policy : Policy) (buf : List ℕ) (n : ℕ) (h : Layout) → judgedOf Sending policy (tagLengthOf suite) (take n buf) ≡ Read h
+    → wireLength suite policy buf n ≡ n + addedOf Sending policy (tagLengthOf suite) h
+wire-length suite policy buf n h read =
+    ap (λ (l : Layout). n + addedOf Sending policy (tagLengthOf suite) l) (sym (judged-layout Sending policy (tagLengthOf suite) (take n buf) h read))
 
 module _ (words : List ℕ) (i : ℕ) (buf : List ℕ) (n : ℕ) where
+  abbrev suite : Suite
+  suite = suiteAt (word words 0)
+
   abbrev policy : Policy
   policy = policyAt (word words 0)
 
@@ -55,36 +61,36 @@ module _ (words : List ℕ) (i : ℕ) (buf : List ℕ) (n : ℕ) where
 
   module _ (k : ℕ) where
     sent-effect : judgedBy Sending (recordIn words i) seq ≡ Index k
-        → effectAt Sending words i buf n ≡ give (wireLength policy buf n) (sentAs words k buf n) (committedBy Sending (recordIn words i) k)
+        → effectAt Sending words i buf n ≡ give (wireLength suite policy buf n) (sentAs words k buf n) (committedBy Sending (recordIn words i) k)
     sent-effect e = rw (e, sent-state (recordIn words i .replay) (recordIn words i .rollover) seq k e)
 
     received-effect : judgedBy Receiving (recordIn words i) seq ≡ Index k
         → effectAt Receiving words i buf n
-        ≡ pick (tagFits tagLength (setupAt words .keys) k (take n buf)) (give (n - tagLength) (receivedAs words k buf n) (committedBy Receiving (recordIn words i) k)) (refuse refusal.Tag)
+        ≡ pick (tagFits suite (setupAt words .keys) policy (ssrcOf (take n buf)) k (take n buf)) (give (n - tagLengthOf suite) (receivedAs words k buf n) (committedBy Receiving (recordIn words i) k)) (refuse refusal.Tag)
     received-effect e = rw (e, received-state blocks width (recordIn words i .replay) (recordIn words i .rollover) seq k e)
 
   -- ---- how a core ends
 
   module _ (k : ℕ) (after : List ℕ) where
-    pub is-sent : judgedBy Sending (recordIn words i) seq ≡ Index k → (m : ℕ) → m ≡ wireLength policy buf n → after ≡ sentAs words k buf n
+    pub is-sent : judgedBy Sending (recordIn words i) seq ≡ Index k → (m : ℕ) → m ≡ wireLength suite policy buf n → after ≡ sentAs words k buf n
         → (memory : List ℕ) → memory ≡ withReplayAt words i (committedBy Sending (recordIn words i) k)
         → Gives (leftBy words i buf (effectAt Sending words i buf n)) (record { number = 0; length = m }) after memory
     is-sent index m long written memory stored = rw (sent-effect k index, stored, written, long) (record { answer = refl; buffer = refl; words = refl })
 
-    module _ (index : judgedBy Receiving (recordIn words i) seq ≡ Index k) (fits : Bool) (isFits : fits ≡ tagFits tagLength (setupAt words .keys) k (take n buf))
+    module _ (index : judgedBy Receiving (recordIn words i) seq ≡ Index k) (fits : Bool) (isFits : fits ≡ tagFits suite (setupAt words .keys) policy (ssrcOf (take n buf)) k (take n buf))
         (written : after ≡ pick fits (receivedAs words k buf n) buf) where
       pub wrong-tag : fits ≡ false → Gives (leftBy words i buf (effectAt Receiving words i buf n)) (record { number = numberOf refusal.Tag; length = 0 }) after words
       wrong-tag f =
-          let t : tagFits tagLength (setupAt words .keys) k (take n buf) ≡ false = sym isFits ∙ f in
+          let t : tagFits suite (setupAt words .keys) policy (ssrcOf (take n buf)) k (take n buf) ≡ false = sym isFits ∙ f in
           let a : after ≡ buf = rw f at written in
           rw (received-effect k index, t, a) (record { answer = refl; buffer = refl; words = refl })
 
-      pub is-received : fits ≡ true → (memory : List ℕ) → memory ≡ withReplayAt words i (committedBy Receiving (recordIn words i) k)
-          → Gives (leftBy words i buf (effectAt Receiving words i buf n)) (record { number = 0; length = n - tagLength }) after memory
-      is-received f memory stored =
-          let t : tagFits tagLength (setupAt words .keys) k (take n buf) ≡ true = sym isFits ∙ f in
+      pub is-received : fits ≡ true → (t : ℕ) → t ≡ tagLengthOf suite → (memory : List ℕ) → memory ≡ withReplayAt words i (committedBy Receiving (recordIn words i) k)
+          → Gives (leftBy words i buf (effectAt Receiving words i buf n)) (record { number = 0; length = n - t }) after memory
+      is-received f t isT memory stored =
+          let p : tagFits suite (setupAt words .keys) policy (ssrcOf (take n buf)) k (take n buf) ≡ true = sym isFits ∙ f in
           let a : after ≡ receivedAs words k buf n = rw f at written in
-          rw (received-effect k index, t, a, stored) (record { answer = refl; buffer = refl; words = refl })
+          rw (received-effect k index, p, a, stored, isT) (record { answer = refl; buffer = refl; words = refl })
 
 -- ---- the packet under the session's keys
 

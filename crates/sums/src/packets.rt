@@ -11,7 +11,7 @@ use text::reading::bytes;
 pub fn begin(session: &mut [u64], policy: u64, way: u32) {
     let key = [0u8; 16];
     let salt = [0u8; 14];
-    make(session, &key, &salt, policy, &key);
+    make(session, &key, &salt, policy, &key, 0);
     add(session, 0, way, 0);
     add(session, 0xcafebabe, way, 0);
 }

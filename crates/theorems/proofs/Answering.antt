@@ -2,7 +2,8 @@
 use mathlib.Core.Path.{_≡_, refl}
 use mathlib.Core.Bool.{true}
 use mathlib.Core.List.{List, [], _∷_}
-use Prim.Native.Nat.{ℕ}
+use Prim.Native.Nat.{ℕ, _≤_}
+use borrow.Author.Tests.{eq-eqb, le-ltb}
 use lib.ListN.{length, take}
 use Rattle.bits.specs.Refusals.{numberOf}
 use Rattle.rtp_elements.specs.Mask.{among}
@@ -16,6 +17,8 @@ use Rattle.policies.specs.declared.policy.Way.{Way}
 use Rattle.policies.specs.declared.policy.Way.the-variants.{Sending, Receiving}
 use Rattle.session.specs.Session.{Setup, Session}
 use Rattle.session.specs.Records.{Found, recordFor}
+use Rattle.suites.specs.declared.suite.Suite.{Suite}
+use Rattle.suites.specs.Suites.{saltLengthOf, lastPolicyOf}
 use Rattle.session.specs.Making.{unmade, sessionOf, makeOf}
 use Rattle.session.specs.Adding.{addOf}
 use Rattle.session.specs.Packets.{Effect, refuse, give, Outcome, settled}
@@ -101,12 +104,17 @@ finds p id = in-finds p id (headerOf p 0) (two-to-four p 0)
 
 -- ---- make
 
-made-number : (key salt : List ℕ) (policy : ℕ) (ids : List ℕ) → among (0 ∷ 15 ∷ 16 ∷ []) (makeOf key salt policy ids .number) ≡ true
-made-number key salt policy ids =
-    make-cases key salt policy ids (λ m. among (0 ∷ 15 ∷ 16 ∷ []) (m .number) ≡ true) (λ r n. widen (15 ∷ 16 ∷ []) (0 ∷ 15 ∷ 16 ∷ []) refl (numberOf r) n) refl
+made-number : (suite : Suite) (key salt : List ℕ) (policy : ℕ) (ids : List ℕ) → among (0 ∷ 15 ∷ 16 ∷ []) (makeOf suite key salt policy ids .number) ≡ true
+made-number suite key salt policy ids =
+    make-cases suite key salt policy ids (λ m. among (0 ∷ 15 ∷ 16 ∷ []) (m .number) ≡ true) (λ r n. widen (15 ∷ 16 ∷ []) (0 ∷ 15 ∷ 16 ∷ []) refl (numberOf r) n) (λ l. refl)
 
-made-refused : (key salt : List ℕ) (policy : ℕ) (ids : List ℕ) → (makeOf key salt policy ids .number ≡ 0 → ⊥) → makeOf key salt policy ids .session ≡ sessionOf unmade
-made-refused key salt policy ids = make-cases key salt policy ids (λ m. (m .number ≡ 0 → ⊥) → m .session ≡ sessionOf unmade) (λ r n z. refl) (λ z. absurd (z refl))
+made-taken : (suite : Suite) (key salt : List ℕ) (policy : ℕ) (ids : List ℕ) → length key ≡ 16 → length salt ≡ saltLengthOf suite → policy ≤ lastPolicyOf suite
+    → makeOf suite key salt policy ids .number ≡ 0
+unfolding makeOf
+made-taken suite key salt policy ids k s p = rw (eq-eqb (length key) 16 k, eq-eqb (length salt) (saltLengthOf suite) s, le-ltb (lastPolicyOf suite) policy p)
+
+made-refused : (suite : Suite) (key salt : List ℕ) (policy : ℕ) (ids : List ℕ) → (makeOf suite key salt policy ids .number ≡ 0 → ⊥) → makeOf suite key salt policy ids .session ≡ sessionOf unmade
+made-refused suite key salt policy ids = make-cases suite key salt policy ids (λ m. (m .number ≡ 0 → ⊥) → m .session ≡ sessionOf unmade) (λ r n z. refl) (λ l z. absurd (z refl))
 
 pub one-answer-each : OneAnswerEach
 unfolding addOf
@@ -116,6 +124,7 @@ one-answer-each =
       find-number = λ p id. finds p id .number;
       find-refused = λ p id. finds p id .none;
       number = made-number;
+      taken = made-taken;
       refused = made-refused;
       no-stream = λ s e ssrc way rollover. rw e;
     }

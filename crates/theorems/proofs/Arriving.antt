@@ -29,13 +29,15 @@ use Rattle.policies.specs.declared.policy.Policy.{Policy}
 use Rattle.policies.specs.declared.policy.Way.the-variants.{Sending, Receiving}
 use Rattle.wire.specs.Claims.{RoundTrip}
 use Rattle.policies.specs.Cryptex.{addsBlock}
+use Rattle.suites.specs.declared.suite.Suite.{Suite}
+use Rattle.suites.specs.Suites.{tagLengthOf}
 use Rattle.wire.specs.Wire.{givenBackOf, wireOf, restoreOf, tagFits}
 use Rattle.policies.specs.Judging.{judgedOf}
 use Rattle.policies.proofs.Layouts.{apart, layout-extension}
 use Rattle.wire.proofs.RoundTrips.{passed, judged, sent-is-given-back}
 use Rattle.session.specs.Session.{Record, Setup, Session, Made}
 use Rattle.session.specs.Records.{some, withReplay, freshRecord}
-use Rattle.session.specs.Packets.{tagLength, listedBy, Effect, refuse, give, unprotectAt, unprotectEffect, Outcome, settled, protectOf, unprotectOf}
+use Rattle.session.specs.Packets.{listedBy, Effect, refuse, give, unprotectAt, unprotectEffect, Outcome, settled, protectOf, unprotectOf}
 use Rattle.session.proofs.Ways.{doneBy}
 use Rattle.theorems.specs.Lists.{sender, receiver, Call, add, protect, unprotect, Sessions, justMade, EqualSets, Event, eventsOf, Bytes}
 use Rattle.theorems.specs.Sent.{Sent, noPacket}
@@ -84,9 +86,9 @@ verdict (Index i) t m b = give m b t
 
 module _ (h : Setup) (x : ℕ) (s : Sent) (g : Good h x s) (buf : List ℕ) (n : ℕ) (size : n ≡ length (s .wire)) (starts : take n buf ≡ s .wire) where
   abbrev wire : List ℕ
-  wire = wireOf tagLength (h .keys) (h .policy) (listedBy h) x (s .index) (s .packet)
+  wire = wireOf (h .suite) (h .keys) (h .policy) (listedBy h) x (s .index) (s .packet)
 
-  back : RoundTrip (h .policy) tagLength (s .packet) wire (restoreOf tagLength (h .keys) (h .policy) (listedBy h) x (s .index) wire)
+  back : RoundTrip (h .policy) (tagLengthOf (h .suite)) (s .packet) wire (restoreOf (h .suite) (h .keys) (h .policy) (listedBy h) x (s .index) wire)
   back = trip h x (s .index) (s .packet) (g .bytes) (g .passes)
 
   begins : take n buf ≡ wire
@@ -115,40 +117,40 @@ module _ (h : Setup) (x : ℕ) (s : Sent) (g : Good h x s) (buf : List ℕ) (n :
   inside : n ≤ length buf
   inside = let e : min n (length buf) ≡ n = sym (length-take n buf) ∙ ap length begins ∙ sym long in omega arith
 
-  read : judgedOf Receiving (h .policy) tagLength (take n buf) ≡ Read (layoutOf (take n buf))
-  read = judged Receiving (h .policy) tagLength (take n buf) (passed Receiving (h .policy) tagLength (take n buf) (rw begins (back .accepted)))
+  read : judgedOf Receiving (h .policy) (tagLengthOf (h .suite)) (take n buf) ≡ Read (layoutOf (take n buf))
+  read = judged Receiving (h .policy) (tagLengthOf (h .suite)) (take n buf) (passed Receiving (h .policy) (tagLengthOf (h .suite)) (take n buf) (rw begins (back .accepted)))
 
-  fits : tagFits tagLength (h .keys) (s .index) (take n buf) ≡ true
-  fits = rw begins (sent-is-given-back .fits tagLength (omega arith) (h .keys) (h .policy) (listedBy h) x (s .index) (s .packet))
+  fits : tagFits (h .suite) (h .keys) (h .policy) (ssrcOf (take n buf)) (s .index) (take n buf) ≡ true
+  fits = rw (same-ssrc, begins) (sent-is-given-back .fits (h .suite) (h .keys) (h .policy) (listedBy h) x (s .index) (s .packet))
 
-  restored : restoreOf tagLength (h .keys) (h .policy) (listedBy h) (ssrcOf (take n buf)) (s .index) (take n buf) ≡ shown
+  restored : restoreOf (h .suite) (h .keys) (h .policy) (listedBy h) (ssrcOf (take n buf)) (s .index) (take n buf) ≡ shown
   restored = rw (same-ssrc, begins) (back .restored)
 
   at-index : (j : Judged) (t : ReplayState) → ((i : ℕ) → j ≡ Index i → i ≡ s .index)
-      → unprotectAt (h .keys) (h .policy) (listedBy h) buf n j t ≡ verdict j t (n - tagLength) (shown ++ drop (n - tagLength) buf)
+      → unprotectAt (h .suite) (h .keys) (h .policy) (listedBy h) buf n j t ≡ verdict j t (n - tagLengthOf (h .suite)) (shown ++ drop (n - tagLengthOf (h .suite)) buf)
   at-index (NoIndex r) t e = refl
   at-index (Index i) t e = rw (e i refl, fits, restored)
 
   pub unprotected : (r : Record) (o : Received) → receiveOf blocks width (r .replay) (r .rollover) (lowOf (s .index)) ≡ o
       → ((i : ℕ) → o .judged ≡ Index i → i ≡ s .index)
-      → unprotectEffect (h .keys) (h .policy) (listedBy h) buf n (some r) ≡ verdict (o .judged) (o .state) (n - tagLength) (shown ++ drop (n - tagLength) buf)
+      → unprotectEffect (h .suite) (h .keys) (h .policy) (listedBy h) buf n (some r) ≡ verdict (o .judged) (o .state) (n - tagLengthOf (h .suite)) (shown ++ drop (n - tagLengthOf (h .suite)) buf)
   unfolding unprotectEffect
   unprotected r o e f = rw (le-ltb (length buf) n inside, read, same-seq, e) (at-index (o .judged) (o .state) f)
 
-  pub enough : n - tagLength ≡ length shown
-  enough = let e : length shown + tagLength ≡ length wire = ap (λ (l : List ℕ). length l + tagLength) (sym (back .restored)) ∙ back .shorter in omega (arith, long)
+  pub enough : n - tagLengthOf (h .suite) ≡ length shown
+  enough = let e : length shown + tagLengthOf (h .suite) ≡ length wire = ap (λ (l : List ℕ). length l + tagLengthOf (h .suite)) (sym (back .restored)) ∙ back .shorter in omega (arith, long)
 
-  count : (b : Bool) → addsBlock (h .policy) (layoutOf (s .packet)) ≡ b → n - tagLength ≡ length (s .packet) + pick b 4 0
+  count : (b : Bool) → addsBlock (h .policy) (layoutOf (s .packet)) ≡ b → n - tagLengthOf (h .suite) ≡ length (s .packet) + pick b 4 0
   count b e =
-      let k : length wire ≡ length (s .packet) + (pick (addsBlock (h .policy) (layoutOf (s .packet))) 4 0 + tagLength) = back .size in
-      let m : n ≡ length (s .packet) + (pick b 4 0 + tagLength) = long ∙ (rw e at k) in
+      let k : length wire ≡ length (s .packet) + (pick (addsBlock (h .policy) (layoutOf (s .packet))) 4 0 + tagLengthOf (h .suite)) = back .size in
+      let m : n ≡ length (s .packet) + (pick b 4 0 + tagLengthOf (h .suite)) = long ∙ (rw e at k) in
       omega arith
 
   -- the packet's own bytes, or these with the block
-  pub right : Right (h .policy) (s .packet) (record { number = 0; length = n - tagLength; buffer = shown ++ drop (n - tagLength) buf })
+  pub right : Right (h .policy) (s .packet) (record { number = 0; length = n - tagLengthOf (h .suite); buffer = shown ++ drop (n - tagLengthOf (h .suite)) buf })
   unfolding givenBackOf
   right =
-      let front : take (n - tagLength) (shown ++ drop (n - tagLength) buf) ≡ shown = take-at shown (drop (n - tagLength) buf) (n - tagLength) (sym enough) in
+      let front : take (n - tagLengthOf (h .suite)) (shown ++ drop (n - tagLengthOf (h .suite)) buf) ≡ shown = take-at shown (drop (n - tagLengthOf (h .suite)) buf) (n - tagLengthOf (h .suite)) (sym enough) in
       record {
         same = λ e. (count false e ∙ omega arith, front ∙ rw e);
         block = λ e. (count true e, front ∙ rw (e, layout-extension (s .packet)));
@@ -216,9 +218,9 @@ module _ (h : Setup) (x rollover : ℕ) (large : rollover < 2 ^ 32) (sent : List
             let t : toldOf (Index i) ≡ enter width held (pkt .index) .told = ap toldOf (sym e) ∙ agrees .told in
             ap (λ (u : Told). u .index) t ∙ enter-index width held (pkt .index) (sym (ap (λ (u : Told). u .number) t))
 
-        effect-is : doneBy Receiving s buf n ≡ verdict (got .judged) (got .state) (n - tagLength) (givenBackOf (h .policy) (pkt .packet) ++ drop (n - tagLength) buf)
+        effect-is : doneBy Receiving s buf n ≡ verdict (got .judged) (got .state) (n - tagLengthOf (h .suite)) (givenBackOf (h .policy) (pkt .packet) ++ drop (n - tagLengthOf (h .suite)) buf)
         effect-is =
-            let own : doneBy Receiving s buf n ≡ unprotectEffect (h .keys) (h .policy) (listedBy h) buf n (some (o .rec)) = rw (same-ssrc h x pkt good buf n size starts, o .holds .setup, o .holds .found) in
+            let own : doneBy Receiving s buf n ≡ unprotectEffect (h .suite) (h .keys) (h .policy) (listedBy h) buf n (some (o .rec)) = rw (same-ssrc h x pkt good buf n size starts, o .holds .setup, o .holds .found) in
             own ∙ unprotected h x pkt good buf n size starts (o .rec) got refl same-index
 
         record Settles (d : Effect) : Type 0 where
@@ -227,7 +229,7 @@ module _ (h : Setup) (x rollover : ℕ) (large : rollover < 2 ^ 32) (sent : List
           follows : Follows (enter width held (pkt .index) .held) (outcome d .session)
 
         settles : (j : Judged) → got .judged ≡ j
-            → Settles (verdict j (got .state) (n - tagLength) (givenBackOf (h .policy) (pkt .packet) ++ drop (n - tagLength) buf))
+            → Settles (verdict j (got .state) (n - tagLengthOf (h .suite)) (givenBackOf (h .policy) (pkt .packet) ++ drop (n - tagLengthOf (h .suite)) buf))
         settles (NoIndex r) e =
             let kept : got .state ≡ o .rec .replay = stays (o .rec .replay) (o .rec .rollover) (lowOf (pkt .index)) r e in
             record {
@@ -306,15 +308,15 @@ module _ (h : Setup) (x rollover : ℕ) (large : rollover < 2 ^ 32) (sent : List
       (record { rec = freshRecord x Receiving rollover; holds = b .holds; start = refl; remembers = fresh-remembers blocks width (omega arith) })
       (record { carried = q .carried; nothing-else = q .nothing-else; near = q .near }))
 
-pub follow : (key salt : List ℕ) (policy : ℕ) (ids others : List ℕ) → EqualSets ids others → (calls : List Call) → Each Bytes calls
-    → ArrivalsFollowTheLedger policy (eventsOf (justMade key salt policy ids others) calls)
-follow key salt policy ids others equal calls bytes x rollover i j large there here sent sent-is marks p =
-    let start : Sessions = justMade key salt policy ids others in
+pub follow : (suite : Suite) (key salt : List ℕ) (policy : ℕ) (ids others : List ℕ) → EqualSets ids others → (calls : List Call) → Each Bytes calls
+    → ArrivalsFollowTheLedger policy (eventsOf (justMade suite key salt policy ids others) calls)
+follow suite key salt policy ids others equal calls bytes x rollover i j large there here sent sent-is marks p =
+    let start : Sessions = justMade suite key salt policy ids others in
     let events : List Event = eventsOf start calls in
-    let h : Setup = setup key salt policy ids in
+    let h : Setup = setup suite key salt policy ids in
     let b : Behind h receiver x Receiving rollover (drop (suc j) events)
-    = behind-add h receiver x Receiving rollover calls bytes start j (ap (λ (m : Made). m .session .setup) (sym (equal-sets .equal key salt policy ids others equal))) here in
-    let goods : Each (Good h x) sent = rw sent-is (all-sent key salt policy ids others calls bytes x rollover i large there) in
+    = behind-add h receiver x Receiving rollover calls bytes start j (ap (λ (m : Made). m .session .setup) (sym (equal-sets .equal suite key salt policy ids others equal))) here in
+    let goods : Each (Good h x) sent = rw sent-is (all-sent suite key salt policy ids others calls bytes x rollover i large there) in
     subst (λ (q : Policy). AsTheLedger q sent [] (arrivalsOf marks (drop (suc j) events)))
-    (ap (λ (t : Setup). t .policy) (made-setup key salt policy ids (b .made)))
+    (ap (λ (t : Setup). t .policy) (made-setup suite key salt policy ids (b .made)))
     (from-add h x rollover large sent goods (drop (suc j) events) b marks p)

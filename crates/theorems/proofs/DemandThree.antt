@@ -12,16 +12,16 @@ use Rattle.theorems.proofs.Words.{exchange-in}
 
 pub demand-three : DemandThree
 unfolding DemandThree
-demand-three key salt policy ids others equal calls =
-    record { ledger = follow key salt policy ids others equal calls; places = exchange (justMade key salt policy ids others) calls }
+demand-three suite key salt policy ids others equal calls =
+    record { ledger = follow suite key salt policy ids others equal calls; places = exchange (justMade suite key salt policy ids others) calls }
 
 -- on memories the events are those of the sessions that they hold
 pub demand-three-in-memory : DemandThreeInMemory
 unfolding DemandThreeInMemory AnswersAsSessions
-demand-three-in-memory key salt policy ids others equal m sized made calls small =
-    let same : runIn m calls .events ≡ eventsOf (justMade key salt policy ids others) calls
+demand-three-in-memory suite key salt policy ids others equal m sized made calls small =
+    let same : runIn m calls .events ≡ eventsOf (justMade suite key salt policy ids others) calls
     = ap (λ (r : Run Sessions). r .events) (answer-as-sessions m sized calls small) ∙ ap (λ (t : Sessions). eventsOf t calls) made in
     record {
-      ledger = λ bytes. subst (λ (l : List Event). ArrivalsFollowTheLedger policy l) (sym same) (follow key salt policy ids others equal calls bytes);
+      ledger = λ bytes. subst (λ (l : List Event). ArrivalsFollowTheLedger policy l) (sym same) (follow suite key salt policy ids others equal calls bytes);
       places = exchange-in m sized calls small;
     }

@@ -2,7 +2,7 @@
 use mathlib.Core.Path.{_≡_, refl, sym, ap, _∙_}
 use mathlib.Core.Bool.{Bool, true, false, not, _&&_, _||_}
 use mathlib.Core.List.{List, [], _∷_}
-use Prim.Native.Nat.{ℕ, zero, suc, _+_, _*_, _<_}
+use Prim.Native.Nat.{ℕ, zero, suc, _+_, _*_, _≤_, _<_}
 use native.Mathlib.Omega.{arith}
 use borrow.Author.Tests.{ne-eqb, eqb-false}
 use lib.Dec.{eqb}
@@ -18,10 +18,14 @@ use Rattle.policies.specs.declared.policy.Way.{Way}
 use Rattle.policies.specs.declared.policy.Way.the-variants.{Sending, Receiving}
 use Rattle.session.specs.Session.{Record, Session}
 use Rattle.session.specs.Records.{isFree, isFor, freePlace, freshRecord, none, changeFirst, recordFor, withReplay, storeFor, hasSsrc, placed}
-use Rattle.session.specs.Making.{counts, idsOf, unmade, sessionOf, makeOf}
+use Rattle.suites.specs.declared.suite.Suite.{Suite}
+use Rattle.suites.specs.Suites.{lastPolicyOf}
+use Rattle.suites.proofs.Lengths.{policy-last}
+use Rattle.policies.specs.Policies.{policyNumber}
+use Rattle.session.specs.Making.{policyOf, counts, idsOf, unmade, sessionOf, makeOf}
 use Rattle.session.specs.Adding.{addOf}
 use Rattle.session.specs.Packets.{Effect, refuse, give, settled, protectOf, unprotectOf}
-use Rattle.session.proofs.Making.{make-cases}
+use Rattle.session.proofs.Making.{policy-number, make-cases}
 use Rattle.session.proofs.Adding.{add-cases}
 use Rattle.session.proofs.Ids.{ids-listed}
 use Rattle.session.proofs.Ways.{doneBy}
@@ -115,17 +119,21 @@ packet-left way s buf n e =
 -- ---- each call
 
 unmade-sound : Sound (sessionOf unmade)
-unmade-sound = record { keys = λ e. clash false e refl; not-made = λ e. refl; places = refl; once = once-free 32 }
+unmade-sound = record { policy = omega arith; keys = λ e. clash false e refl; not-made = λ e. refl; places = refl; once = once-free 32 }
 
-made : (key salt : List ℕ) (policy : ℕ) (ids : List ℕ) → Sound (makeOf key salt policy ids .session)
-made key salt policy ids =
-    make-cases key salt policy ids (λ m. Sound (m .session)) (λ r n. unmade-sound)
-    (record { keys = λ e. refl; not-made = λ e. clash true refl e; places = refl; once = once-free 32 })
+made : (suite : Suite) (key salt : List ℕ) (policy : ℕ) (ids : List ℕ) → Sound (makeOf suite key salt policy ids .session)
+made suite key salt policy ids =
+    make-cases suite key salt policy ids (λ m. Sound (m .session)) (λ r n. unmade-sound)
+    (λ l. record { policy = fits l; keys = λ e. refl; not-made = λ e. clash true refl e; places = refl; once = once-free 32 })
+  where
+    fits : policy ≤ lastPolicyOf suite → policyNumber (policyOf policy) ≤ lastPolicyOf suite
+    fits l = let p = policy-last suite in rw (policy-number policy (omega arith)) l
 
 add-sound : (s : Session) (x : ℕ) (w : Way) (rollover : ℕ) → Sound s → Sound (addOf s x w rollover .session)
 add-sound s x w rollover o =
     add-cases s x w rollover (λ m. Sound (m .session)) (λ r n. o)
     (λ m h f. record {
+      policy = o .policy;
       keys = o .keys;
       not-made = λ z. clash _ m z;
       places = length-changed (λ r. isFree (r .kind)) (λ r. freshRecord x w rollover) (s .records) ∙ o .places;
@@ -137,6 +145,7 @@ settled-sound : (s : Session) (buf : List ℕ) (x : ℕ) (w : Way) (d : Effect) 
 settled-sound s buf x w (refuse r) f o = o
 settled-sound s buf x w (give m b t) f o =
     record {
+      policy = o .policy;
       keys = o .keys;
       not-made = λ z. f (o .not-made z) ∙ o .not-made z;
       places = length-changed (λ r. isFor r x w) (λ r. withReplay r t) (s .records) ∙ o .places;
@@ -177,9 +186,9 @@ sessions-are-sound =
       kept = kept;
       setup = setup-outcome;
       always =
-          λ key salt policy ids others calls e.
-          at-end e (after (justMade key salt policy ids others) calls)
-          (after-sound calls (justMade key salt policy ids others) (record { atSender = made key salt policy ids; atReceiver = made key salt policy others }));
+          λ suite key salt policy ids others calls e.
+          at-end e (after (justMade suite key salt policy ids others) calls)
+          (after-sound calls (justMade suite key salt policy ids others) (record { atSender = made suite key salt policy ids; atReceiver = made suite key salt policy others }));
     }
 
 -- ---- sets of ids
@@ -196,7 +205,7 @@ same-ids ids others e =
 
 pub equal-sets : EqualSetsEqualSessions
 unfolding makeOf
-equal-sets = record { equal = λ key salt policy ids others e. rw (same-ids ids others e) }
+equal-sets = record { equal = λ suite key salt policy ids others e. rw (same-ids ids others e) }
 
 pub words-are-the-set : WordsAreTheSet
 words-are-the-set = record { listed = ids-listed }

@@ -21,6 +21,9 @@ use Rattle.policies.specs.Judging.{profileFits, judgedOf}
 use Rattle.policies.proofs.Layouts.{layout-same}
 use Rattle.wire.proofs.RoundTrips.{passed, sent-is-given-back}
 use Rattle.packet_cipher.proofs.Crypting.{and-left, and-right}
+use Rattle.suites.specs.declared.suite.Suite.{Suite}
+use Rattle.suites.specs.declared.suite.Suite.the-variants.{CmHmac, Gcm}
+use Rattle.session.specs.Session.{Session}
 use Rattle.session.specs.Making.{keysOf, idsOf, makeOf}
 use Rattle.session.specs.Adding.{addOf}
 use Rattle.session.specs.Packets.{Answer, protectEffect, unprotectEffect, protectOf, unprotectOf}
@@ -93,7 +96,7 @@ pairOf s = record { index = s .index; packet = s .packet }
 abbrev sentPair : ℕ → Pair → Sent
 sentPair x p = sentAs x (p .index) (p .packet)
 
-known-wires : (x : ℕ) (l : List Sent) → Each (SentAs key salt 2 ids x) l → l ≡ map (sentPair x) (map pairOf l)
+known-wires : (x : ℕ) (l : List Sent) → Each (SentAs CmHmac key salt 2 ids x) l → l ≡ map (sentPair x) (map pairOf l)
 known-wires x [] e = refl
 known-wires x (s ∷ l) (e, es) =
     ap₂ (λ (w : List ℕ) (r : List Sent). record { index = s .index; packet = s .packet; wire = w } ∷ r) (e .wire) (known-wires x l es)
@@ -117,9 +120,9 @@ unfolding makeOf addOf
 adds-drums = (refl, refl)
 
 under-index : (x rollover i : ℕ) → rollover < 2 ^ 32 → getD events i noEvent ≡ added sender x Sending rollover
-    → Each (SentAs key salt 2 ids x) (sentFrom x rollover noneSent events)
+    → Each (SentAs CmHmac key salt 2 ids x) (sentFrom x rollover noneSent events)
 unfolding SentUnderItsIndex
-under-index x rollover i large q = sent-under-its-index key salt 2 ids others calls bytes x rollover i large q
+under-index x rollover i large q = sent-under-its-index CmHmac key salt 2 ids others calls bytes x rollover i large q
 
 pub sent : voiceSent ≡ sentFrom voice 0 noneSent events
 sent =
@@ -139,7 +142,7 @@ wire-ssrc : (x i : ℕ) (p : List ℕ) → areBytes p ≡ true → headerNumber 
     → ssrcOf (take (length (wire x i p)) (wire x i p ++ replicate 3 0)) ≡ ssrcOf p
 unfolding ssrcOf
 wire-ssrc x i p b h =
-    let t = sent-is-given-back .back (keysOf key salt) CryptexRequired (listedIn (idsOf ids)) x i 10 p (omega arith) (are-bytes p b) h in
+    let t = sent-is-given-back .back CmHmac (keysOf key salt) CryptexRequired (listedIn (idsOf ids)) x i p (are-bytes p b) h in
     ap ssrcOf (starts (wire x i p))
     ∙ rw (t .header 8 (omega arith) (omega arith), t .header 9 (omega arith) (omega arith), t .header 10 (omega arith) (omega arith), t .header 11 (omega arith) (omega arith)) refl
 
@@ -154,9 +157,17 @@ junk-ssrc : ssrcOf (take (length wrongVersion) wrongVersion) ≡ voice
 unfolding ssrcOf
 junk-ssrc = refl
 
-other-calls : othersOf voice (marked voiceMarks) (drop 2 events) ≡ 3 ∷ []
+-- whatever the suite
+junk-number : (s : Session) → unprotectOf s wrongVersion (length wrongVersion) .answer .number ≡ 3
 unfolding unprotectOf unprotectEffect judgedOf headerOf
-other-calls = rw (of-drums, junk-ssrc)
+junk-number s = go (s .setup .suite) refl
+  where
+    go : (q : Suite) → s .setup .suite ≡ q → unprotectOf s wrongVersion (length wrongVersion) .answer .number ≡ 3
+    go CmHmac e = rw e
+    go Gcm e = rw e
+
+other-calls : othersOf voice (marked voiceMarks) (drop 2 events) ≡ 3 ∷ []
+other-calls = rw (of-drums, junk-ssrc, junk-number _)
 
 of-voice0 : ssrcOf (place (wire voice 65534 voice0)) ≡ voice
 unfolding areBytes judgedOf headerOf boundedOf layoutOf ssrcOf
@@ -220,7 +231,7 @@ followed : (x rollover i j : ℕ) → rollover < 2 ^ 32 → getD events i noEven
     → (l : List Sent) → l ≡ sentFrom x rollover noneSent events → (marks : ℕ → Mark) → Premises x rollover l marks (drop (suc j) events)
     → AsTheLedger CryptexRequired l [] (arrivalsOf marks (drop (suc j) events))
 unfolding DemandThree
-followed x rollover i j large there here l e marks p = demand-three key salt 2 ids others sets calls .ledger bytes x rollover i j large there here l e marks p
+followed x rollover i j large there here l e marks p = demand-three CmHmac key salt 2 ids others sets calls .ledger bytes x rollover i j large there here l e marks p
 
 pub premises-are-met : PremisesAreMet
 premises-are-met =
@@ -247,7 +258,7 @@ not-as-it-is : (x i : ℕ) (p : List ℕ) → areBytes p ≡ true → headerNumb
     → profileFits Receiving CryptexRequired (layoutOf p) ≡ false → (layoutOf p .x ≡ true → layoutOf p .extension + 4 ≤ length p)
     → ((k : ℕ) → k < length p → getD (wire x i p) k 0 ≡ getD p k 0) → ⊥
 not-as-it-is x i p b h wrong fits same =
-    let t = sent-is-given-back .back (keysOf key salt) CryptexRequired (listedIn (idsOf ids)) x i 10 p (omega arith) (are-bytes p b) h in
+    let t = sent-is-given-back .back CmHmac (keysOf key salt) CryptexRequired (listedIn (idsOf ids)) x i p (are-bytes p b) h in
     let l : layoutOf (wire x i p) ≡ layoutOf p = layout-same p (wire x i p) (same 0 (omega (arith, passed Sending CryptexRequired 10 p h .long))) (λ q k u v. same k (omega (arith, fits q))) in
     let f : profileFits Receiving CryptexRequired (layoutOf (wire x i p)) ≡ true = passed Receiving CryptexRequired 10 (wire x i p) (t .accepted) .profile in
     clash _ (rw l at f) wrong
@@ -255,7 +266,7 @@ not-as-it-is x i p b h wrong fits same =
 module _ (x i : ℕ) (p : List ℕ) (b : areBytes p ≡ true) (h : headerNumber (judgedOf Sending CryptexRequired 10 p) ≡ 0)
     (wrong : profileFits Receiving CryptexRequired (layoutOf p) ≡ false) (fits : layoutOf p .x ≡ true → layoutOf p .extension + 4 ≤ length p) where
   longer : length p ≤ length (wire x i p)
-  longer = omega (arith, sent-is-given-back .back (keysOf key salt) CryptexRequired (listedIn (idsOf ids)) x i 10 p (omega arith) (are-bytes p b) h .size)
+  longer = omega (arith, sent-is-given-back .back CmHmac (keysOf key salt) CryptexRequired (listedIn (idsOf ids)) x i p (are-bytes p b) h .size)
 
   not-left-by-protect : (more rest : List ℕ) → wire x i p ++ rest ≡ p ++ more → ⊥
   not-left-by-protect more rest e =

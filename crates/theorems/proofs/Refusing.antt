@@ -14,7 +14,7 @@ use Rattle.bits.specs.declared.refusal.Refusal.the-variants.{Length, Short, Ver
 use Rattle.rtp_header.specs.declared.header.Header.{Header}
 use Rattle.rtp_header.specs.declared.header.Header.the-variants.{Read, Refused}
 use Rattle.rtp_header.specs.declared.header.Layout.{Layout}
-use Rattle.rtp_header.specs.Header.{versionOf, layoutOf, boundedOf, headerOf, seqOf}
+use Rattle.rtp_header.specs.Header.{versionOf, layoutOf, boundedOf, headerOf, seqOf, ssrcOf}
 use Rattle.rtp_elements.specs.Mask.{among}
 use Rattle.replay.specs.declared.answer.Judged.{Judged}
 use Rattle.replay.specs.declared.answer.Judged.the-variants.{Index, Refused as NoIndex}
@@ -27,10 +27,11 @@ use Rattle.policies.specs.declared.policy.Way.{Way}
 use Rattle.policies.specs.declared.policy.Way.the-variants.{Sending, Receiving}
 use Rattle.policies.specs.Judging.{tailOf, profileFits, elementsFit, sizeFits, judgedAfter, judgedOf}
 use Rattle.packet_cipher.proofs.Crypting.{and-left, and-right}
+use Rattle.suites.specs.Suites.{tagLengthOf}
 use Rattle.wire.specs.Wire.{tagFits}
 use Rattle.session.specs.Session.{Setup}
 use Rattle.session.specs.Records.{Found, none, some}
-use Rattle.session.specs.Packets.{listedBy, tagLength, Effect, refuse, give, wireLength, protectAt, unprotectAt}
+use Rattle.session.specs.Packets.{listedBy, Effect, refuse, give, wireLength, protectAt, unprotectAt}
 use Rattle.session.proofs.Ways.{stateBy, inBy, readBy, effectBy, effect-is}
 use Rattle.theorems.proofs.Records.{clash}
 
@@ -145,7 +146,7 @@ pub data Timing (late : List ℕ) (act : Found → Effect) : Type 0 where
   later : ((found : Found) → Refuses late (act found)) → Timing late act
 
 module _ (setup : Setup) (buf : List ℕ) (n : ℕ) where
-  sent-late : (j : Judged) (t : ReplayState) → IndexIn (10 ∷ 11 ∷ []) j → Refuses (lateNumbers Sending) (protectAt (setup .keys) (setup .policy) (listedBy setup) buf n j t)
+  sent-late : (j : Judged) (t : ReplayState) → IndexIn (10 ∷ 11 ∷ []) j → Refuses (lateNumbers Sending) (protectAt (setup .suite) (setup .keys) (setup .policy) (listedBy setup) buf n j t)
   sent-late (Index i) t e = tt
   sent-late (NoIndex r) t e = widen (10 ∷ 11 ∷ []) (lateNumbers Sending) refl (numberOf r) e
 
@@ -153,8 +154,8 @@ module _ (setup : Setup) (buf : List ℕ) (n : ℕ) where
   tag-late true m b t = tt
   tag-late false m b t = refl
 
-  received-late : (j : Judged) (t : ReplayState) → IndexIn (11 ∷ 12 ∷ 13 ∷ []) j → Refuses (lateNumbers Receiving) (unprotectAt (setup .keys) (setup .policy) (listedBy setup) buf n j t)
-  received-late (Index i) t e = tag-late (tagFits tagLength (setup .keys) i (take n buf)) _ _ t
+  received-late : (j : Judged) (t : ReplayState) → IndexIn (11 ∷ 12 ∷ 13 ∷ []) j → Refuses (lateNumbers Receiving) (unprotectAt (setup .suite) (setup .keys) (setup .policy) (listedBy setup) buf n j t)
+  received-late (Index i) t e = tag-late (tagFits (setup .suite) (setup .keys) (setup .policy) (ssrcOf (take n buf)) i (take n buf)) _ _ t
   received-late (NoIndex r) t e = widen (11 ∷ 12 ∷ 13 ∷ []) (lateNumbers Receiving) refl (numberOf r) e
 
   in-late : (way : Way) (found : Found) → Refuses (lateNumbers way) (inBy setup buf n way found)
@@ -173,7 +174,7 @@ module _ (setup : Setup) (buf : List ℕ) (n : ℕ) where
   read-timing : (way : Way) (h : Header) → HeaderIn earlyNumbers h → Timing (lateNumbers way) (readBy setup buf n way h)
   read-timing Sending (Refused r) e = early (record { reason = r; number = e; refuses = λ found. refl })
   read-timing Receiving (Refused r) e = early (record { reason = r; number = e; refuses = λ found. refl })
-  read-timing Sending (Read h) e = later (room-late (ltb (length buf) (wireLength (setup .policy) buf n)))
+  read-timing Sending (Read h) e = later (room-late (ltb (length buf) (wireLength (setup .suite) (setup .policy) buf n)))
   read-timing Receiving (Read h) e = later (in-late Receiving)
 
   first-timing : (way : Way) (c : Bool) (h : Header) → HeaderIn earlyNumbers h → Timing (lateNumbers way) (λ found. pick c (refuse Length) (readBy setup buf n way h found))
@@ -181,9 +182,9 @@ module _ (setup : Setup) (buf : List ℕ) (n : ℕ) where
   first-timing way false h e = read-timing way h e
 
   pub timing : (way : Way) → Timing (lateNumbers way) (effectBy setup buf n way)
-  timing way = go (first-timing way (ltb (length buf) n) (judgedOf way (setup .policy) tagLength (take n buf)) (two-to-seven way (setup .policy) tagLength (take n buf)))
+  timing way = go (first-timing way (ltb (length buf) n) (judgedOf way (setup .policy) (tagLengthOf (setup .suite)) (take n buf)) (two-to-seven way (setup .policy) (tagLengthOf (setup .suite)) (take n buf)))
     where
-      go : Timing (lateNumbers way) (λ found. pick (ltb (length buf) n) (refuse Length) (readBy setup buf n way (judgedOf way (setup .policy) tagLength (take n buf)) found))
+      go : Timing (lateNumbers way) (λ found. pick (ltb (length buf) n) (refuse Length) (readBy setup buf n way (judgedOf way (setup .policy) (tagLengthOf (setup .suite)) (take n buf)) found))
           → Timing (lateNumbers way) (effectBy setup buf n way)
       go (early e) = early (record { reason = e .reason; number = e .number; refuses = λ found. effect-is setup buf n way found ∙ e .refuses found })
       go (later l) = later (λ found. rw (effect-is setup buf n way found) (l found))

@@ -23,13 +23,15 @@ use Rattle.ledger.proofs.Indices.{gives-at, next-gives, sending}
 use Rattle.policies.specs.declared.policy.Way.the-variants.{Sending, Receiving}
 use Rattle.wire.specs.Claims.{RoundTrip}
 use Rattle.policies.specs.Judging.{addedOf, judgedOf}
+use Rattle.suites.specs.declared.suite.Suite.{Suite}
+use Rattle.suites.specs.Suites.{tagLengthOf}
 use Rattle.wire.specs.Wire.{wireOf, restoreOf}
 use Rattle.policies.proofs.Layouts.{apart}
 use Rattle.wire.proofs.RoundTrips.{sent-is-given-back}
 use Rattle.session.specs.Session.{Record, Setup, Session}
 use Rattle.session.specs.Records.{some, withReplay, storeFor, freshRecord}
 use Rattle.session.specs.Making.{setupOf, makeOf}
-use Rattle.session.specs.Packets.{tagLength, listedBy, Effect, refuse, give, wireLength, protectEffect, Outcome, settled, protectOf, unprotectOf}
+use Rattle.session.specs.Packets.{listedBy, Effect, refuse, give, wireLength, protectEffect, Outcome, settled, protectOf, unprotectOf}
 use Rattle.session.proofs.Ways.{doneBy}
 use Rattle.session.proofs.Making.{make-cases}
 use Rattle.theorems.specs.Lists.{sender, receiver, Call, add, protect, unprotect, Sessions, justMade, Event, added, noEvent, eventsOf, Bytes}
@@ -88,18 +90,18 @@ module _ (t : ReplayState) (rollover : ℕ) (large : rollover < 2 ^ 32) (p : Lis
 -- ---- a packet that was sent
 
 pub record Good (h : Setup) (x : ℕ) (s : Sent) : Type 0 where
-  pub passes : headerNumber (judgedOf Sending (h .policy) tagLength (s .packet)) ≡ 0
+  pub passes : headerNumber (judgedOf Sending (h .policy) (tagLengthOf (h .suite)) (s .packet)) ≡ 0
   pub bytes : (i : ℕ) → getD (s .packet) i 0 < 256
   pub ssrc : ssrcOf (s .packet) ≡ x
   pub small : s .index < 2 ^ 48
   pub low : lowOf (s .index) ≡ seqOf (s .packet)
-  pub wire : s .wire ≡ wireOf tagLength (h .keys) (h .policy) (listedBy h) x (s .index) (s .packet)
+  pub wire : s .wire ≡ wireOf (h .suite) (h .keys) (h .policy) (listedBy h) x (s .index) (s .packet)
 
 -- what packet says of it
-pub trip : (h : Setup) (x i : ℕ) (p : List ℕ) → ((k : ℕ) → getD p k 0 < 256) → headerNumber (judgedOf Sending (h .policy) tagLength p) ≡ 0
-    → RoundTrip (h .policy) tagLength p (wireOf tagLength (h .keys) (h .policy) (listedBy h) x i p)
-    (restoreOf tagLength (h .keys) (h .policy) (listedBy h) x i (wireOf tagLength (h .keys) (h .policy) (listedBy h) x i p))
-trip h x i p bytes passes = sent-is-given-back .back (h .keys) (h .policy) (listedBy h) x i tagLength p (omega arith) bytes passes
+pub trip : (h : Setup) (x i : ℕ) (p : List ℕ) → ((k : ℕ) → getD p k 0 < 256) → headerNumber (judgedOf Sending (h .policy) (tagLengthOf (h .suite)) p) ≡ 0
+    → RoundTrip (h .policy) (tagLengthOf (h .suite)) p (wireOf (h .suite) (h .keys) (h .policy) (listedBy h) x i p)
+    (restoreOf (h .suite) (h .keys) (h .policy) (listedBy h) x i (wireOf (h .suite) (h .keys) (h .policy) (listedBy h) x i p))
+trip h x i p bytes passes = sent-is-given-back .back (h .suite) (h .keys) (h .policy) (listedBy h) x i p bytes passes
 
 module _ (h : Setup) (x rollover : ℕ) (large : rollover < 2 ^ 32) where
   -- a sender's session between two of its calls
@@ -121,7 +123,7 @@ module _ (h : Setup) (x rollover : ℕ) (large : rollover < 2 ^ 32) where
         (sentBy rollover last (take n buf) (outcome d .answer) ∷ K (lastSent (sentBy rollover last (take n buf) (outcome d .answer))) (outcome d .session))
         (K last (outcome d .session))
 
-    own : ssrcOf (take n buf) ≡ x → doneBy Sending s buf n ≡ protectEffect (h .keys) (h .policy) (listedBy h) buf n (some (o .rec))
+    own : ssrcOf (take n buf) ≡ x → doneBy Sending s buf n ≡ protectEffect (h .suite) (h .keys) (h .policy) (listedBy h) buf n (some (o .rec))
     own e = rw (e, o .holds .setup, o .holds .found)
 
     module _ (e : ssrcOf (take n buf) ≡ x) (m : ℕ) (b : List ℕ) (t : ReplayState) (g : Given h buf n (o .rec) m b t) where
@@ -135,14 +137,14 @@ module _ (h : Setup) (x rollover : ℕ) (large : rollover < 2 ^ 32) where
       numbered = indexed (o .rec .replay) rollover large (take n buf) all-bytes (g .index) step last (o .knows)
 
       abbrev wire : List ℕ
-      wire = wireOf tagLength (h .keys) (h .policy) (listedBy h) x (g .index) (take n buf)
+      wire = wireOf (h .suite) (h .keys) (h .policy) (listedBy h) x (g .index) (take n buf)
 
       on-wire : take m b ≡ wire
       on-wire =
-          let size : length wire ≡ length (take n buf) + addedOf Sending (h .policy) tagLength (layoutOf (take n buf)) = trip h x (g .index) (take n buf) all-bytes (g .passes) .size in
+          let size : length wire ≡ length (take n buf) + addedOf Sending (h .policy) (tagLengthOf (h .suite)) (layoutOf (take n buf)) = trip h x (g .index) (take n buf) all-bytes (g .passes) .size in
           let k : length (take n buf) ≡ n = length-take-le n buf (g .inside) in
-          let w : length wire ≡ wireLength (h .policy) buf n = omega arith in
-          rw (g .size, g .buffer, e) (take-at wire (drop (wireLength (h .policy) buf n) buf) (wireLength (h .policy) buf n) w)
+          let w : length wire ≡ wireLength (h .suite) (h .policy) buf n = omega arith in
+          rw (g .size, g .buffer, e) (take-at wire (drop (wireLength (h .suite) (h .policy) buf n) buf) (wireLength (h .suite) (h .policy) buf n) w)
 
       good : Good h x (sentBy rollover last (take n buf) (record { number = 0; length = m; buffer = b }))
       good =
@@ -211,31 +213,31 @@ module _ (h : Setup) (x rollover : ℕ) (large : rollover < 2 ^ 32) where
 
 -- ---- the whole list
 
-module _ (key salt : List ℕ) (policy : ℕ) (ids : List ℕ) where
+module _ (suite : Suite) (key salt : List ℕ) (policy : ℕ) (ids : List ℕ) where
   abbrev pub setup : Setup
-  setup = makeOf key salt policy ids .session .setup
+  setup = makeOf suite key salt policy ids .session .setup
 
-  pub made-setup : setup .made ≡ true → setup ≡ setupOf key salt policy ids
+  pub made-setup : setup .made ≡ true → setup ≡ setupOf suite key salt policy ids
   made-setup =
-      make-cases key salt policy ids (λ m. m .session .setup .made ≡ true → m .session .setup ≡ setupOf key salt policy ids) (λ r n e. clash false e refl) (λ e. refl)
+      make-cases suite key salt policy ids (λ m. m .session .setup .made ≡ true → m .session .setup ≡ setupOf suite key salt policy ids) (λ r n e. clash false e refl) (λ l e. refl)
 
   pub all-sent : (others : List ℕ) (calls : List Call) → Each Bytes calls → (x rollover i : ℕ) → rollover < 2 ^ 32
-      → getD (eventsOf (justMade key salt policy ids others) calls) i noEvent ≡ added sender x Sending rollover
-      → Each (Good setup x) (sentFrom x rollover noneSent (eventsOf (justMade key salt policy ids others) calls))
+      → getD (eventsOf (justMade suite key salt policy ids others) calls) i noEvent ≡ added sender x Sending rollover
+      → Each (Good setup x) (sentFrom x rollover noneSent (eventsOf (justMade suite key salt policy ids others) calls))
   all-sent others calls bytes x rollover i large q =
-      rw (nothing-before x rollover calls (justMade key salt policy ids others) i noneSent q)
-      (sent-good setup x rollover large (drop (suc i) (eventsOf (justMade key salt policy ids others) calls))
-      (behind-add setup sender x Sending rollover calls bytes (justMade key salt policy ids others) i refl q))
+      rw (nothing-before x rollover calls (justMade suite key salt policy ids others) i noneSent q)
+      (sent-good setup x rollover large (drop (suc i) (eventsOf (justMade suite key salt policy ids others) calls))
+      (behind-add setup sender x Sending rollover calls bytes (justMade suite key salt policy ids others) i refl q))
 
-  sent-as : (x : ℕ) → setup .made ≡ true → (l : List Sent) → Each (Good setup x) l → Each (SentAs key salt policy ids x) l
+  sent-as : (x : ℕ) → setup .made ≡ true → (l : List Sent) → Each (Good setup x) l → Each (SentAs suite key salt policy ids x) l
   sent-as x made [] g = tt
   sent-as x made (s ∷ l) (g, gs) =
       (record { ssrc = g .ssrc; low = g .low; small = g .small; wire = rw (made-setup made) at (g .wire) }, sent-as x made l gs)
 
 pub sent-under-its-index : SentUnderItsIndex
 unfolding SentUnderItsIndex
-sent-under-its-index key salt policy ids others calls bytes x rollover i large q =
-    sent-as key salt policy ids x
-    (behind-add (setup key salt policy ids) sender x Sending rollover calls bytes (justMade key salt policy ids others) i refl q .made)
-    (sentFrom x rollover noneSent (eventsOf (justMade key salt policy ids others) calls))
-    (all-sent key salt policy ids others calls bytes x rollover i large q)
+sent-under-its-index suite key salt policy ids others calls bytes x rollover i large q =
+    sent-as suite key salt policy ids x
+    (behind-add (setup suite key salt policy ids) sender x Sending rollover calls bytes (justMade suite key salt policy ids others) i refl q .made)
+    (sentFrom x rollover noneSent (eventsOf (justMade suite key salt policy ids others) calls))
+    (all-sent suite key salt policy ids others calls bytes x rollover i large q)

@@ -18,11 +18,12 @@ use Rattle.replay.specs.Send.{sendOf}
 use Rattle.policies.specs.declared.policy.Way.{Way}
 use Rattle.policies.specs.declared.policy.Way.the-variants.{Sending}
 use Rattle.policies.specs.Judging.{judgedOf}
+use Rattle.suites.specs.Suites.{tagLengthOf}
 use Rattle.wire.specs.Wire.{wireOf}
 use Rattle.policies.proofs.Layouts.{apart}
 use Rattle.session.specs.Session.{Record, Setup, Session}
 use Rattle.session.specs.Records.{none, some, recordFor}
-use Rattle.session.specs.Packets.{tagLength, listedBy, Effect, refuse, give, wireLength, protectAt, protectIn, protectRead, protectEffect, settled}
+use Rattle.session.specs.Packets.{listedBy, Effect, refuse, give, wireLength, protectAt, protectIn, protectRead, protectEffect, settled}
 use Rattle.session.proofs.Ways.{effectBy, effect-cases}
 use Rattle.theorems.proofs.Records.{found-other, stores-commute}
 
@@ -54,39 +55,39 @@ module _ (x y : ℕ) (w v : Way) (differ : w ≡ v → x ≡ y → ⊥) where
 module _ (setup : Setup) (buf : List ℕ) (n : ℕ) where
   pub record Given (r : Record) (m : ℕ) (b : List ℕ) (t : ReplayState) : Type 0 where
     pub inside : n ≤ length buf
-    pub passes : headerNumber (judgedOf Sending (setup .policy) tagLength (take n buf)) ≡ 0
+    pub passes : headerNumber (judgedOf Sending (setup .policy) (tagLengthOf (setup .suite)) (take n buf)) ≡ 0
     pub index : ℕ
     pub step : sendOf (r .replay) (r .rollover) (seqOf (take n buf)) .judged ≡ Index index
-    pub size : m ≡ wireLength (setup .policy) buf n
-    pub buffer : b ≡ wireOf tagLength (setup .keys) (setup .policy) (listedBy setup) (ssrcOf (take n buf)) index (take n buf) ++ drop (wireLength (setup .policy) buf n) buf
+    pub size : m ≡ wireLength (setup .suite) (setup .policy) buf n
+    pub buffer : b ≡ wireOf (setup .suite) (setup .keys) (setup .policy) (listedBy setup) (ssrcOf (take n buf)) index (take n buf) ++ drop (wireLength (setup .suite) (setup .policy) buf n) buf
     pub state : t ≡ sendOf (r .replay) (r .rollover) (seqOf (take n buf)) .state
 
   module _ (r : Record) (m : ℕ) (b : List ℕ) (t : ReplayState) (inside : n ≤ length buf) where
-    given-at : headerNumber (judgedOf Sending (setup .policy) tagLength (take n buf)) ≡ 0
+    given-at : headerNumber (judgedOf Sending (setup .policy) (tagLengthOf (setup .suite)) (take n buf)) ≡ 0
         → (j : Judged) → sendOf (r .replay) (r .rollover) (seqOf (take n buf)) .judged ≡ j
-        → protectAt (setup .keys) (setup .policy) (listedBy setup) buf n j (sendOf (r .replay) (r .rollover) (seqOf (take n buf)) .state) ≡ give m b t → Given r m b t
+        → protectAt (setup .suite) (setup .keys) (setup .policy) (listedBy setup) buf n j (sendOf (r .replay) (r .rollover) (seqOf (take n buf)) .state) ≡ give m b t → Given r m b t
     given-at p (NoIndex q) e g = apart cc
     given-at p (Index i) e g =
-        let x : wireLength (setup .policy) buf n ≡ m = cc in
-        let y : wireOf tagLength (setup .keys) (setup .policy) (listedBy setup) (ssrcOf (take n buf)) i (take n buf) ++ drop (wireLength (setup .policy) buf n) buf ≡ b = cc in
+        let x : wireLength (setup .suite) (setup .policy) buf n ≡ m = cc in
+        let y : wireOf (setup .suite) (setup .keys) (setup .policy) (listedBy setup) (ssrcOf (take n buf)) i (take n buf) ++ drop (wireLength (setup .suite) (setup .policy) buf n) buf ≡ b = cc in
         let z : sendOf (r .replay) (r .rollover) (seqOf (take n buf)) .state ≡ t = cc in
         record { inside = inside; passes = p; index = i; step = e; size = sym x; buffer = sym y; state = sym z }
 
-    given-in : (c : Bool) → headerNumber (judgedOf Sending (setup .policy) tagLength (take n buf)) ≡ 0
-        → pick c (refuse refusal.Room) (protectIn (setup .keys) (setup .policy) (listedBy setup) buf n (some r)) ≡ give m b t → Given r m b t
+    given-in : (c : Bool) → headerNumber (judgedOf Sending (setup .policy) (tagLengthOf (setup .suite)) (take n buf)) ≡ 0
+        → pick c (refuse refusal.Room) (protectIn (setup .suite) (setup .keys) (setup .policy) (listedBy setup) buf n (some r)) ≡ give m b t → Given r m b t
     given-in true p g = apart cc
     given-in false p g = given-at p _ refl g
 
-    given-read : (h : Header) → judgedOf Sending (setup .policy) tagLength (take n buf) ≡ h → protectRead (setup .keys) (setup .policy) (listedBy setup) buf n h (some r) ≡ give m b t → Given r m b t
+    given-read : (h : Header) → judgedOf Sending (setup .policy) (tagLengthOf (setup .suite)) (take n buf) ≡ h → protectRead (setup .suite) (setup .keys) (setup .policy) (listedBy setup) buf n h (some r) ≡ give m b t → Given r m b t
     given-read (Refused q) e g = apart cc
-    given-read (Read h) e g = given-in (ltb (length buf) (wireLength (setup .policy) buf n)) (ap headerNumber e) g
+    given-read (Read h) e g = given-in (ltb (length buf) (wireLength (setup .suite) (setup .policy) buf n)) (ap headerNumber e) g
 
   given-first : (r : Record) (m : ℕ) (b : List ℕ) (t : ReplayState) (c : Bool) → ltb (length buf) n ≡ c
-      → pick c (refuse refusal.Length) (protectRead (setup .keys) (setup .policy) (listedBy setup) buf n (judgedOf Sending (setup .policy) tagLength (take n buf)) (some r)) ≡ give m b t → Given r m b t
+      → pick c (refuse refusal.Length) (protectRead (setup .suite) (setup .keys) (setup .policy) (listedBy setup) buf n (judgedOf Sending (setup .policy) (tagLengthOf (setup .suite)) (take n buf)) (some r)) ≡ give m b t → Given r m b t
   given-first r m b t true e g = apart cc
   given-first r m b t false e g = given-read r m b t (ltb-false (length buf) n e) _ refl g
 
-  pub given : (r : Record) (m : ℕ) (b : List ℕ) (t : ReplayState) → protectEffect (setup .keys) (setup .policy) (listedBy setup) buf n (some r) ≡ give m b t → Given r m b t
+  pub given : (r : Record) (m : ℕ) (b : List ℕ) (t : ReplayState) → protectEffect (setup .suite) (setup .keys) (setup .policy) (listedBy setup) buf n (some r) ≡ give m b t → Given r m b t
   unfolding protectEffect
   given r m b t g = given-first r m b t (ltb (length buf) n) refl g
 

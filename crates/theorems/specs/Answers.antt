@@ -2,9 +2,12 @@
 use mathlib.Core.Path.{_≡_}
 use mathlib.Core.Bool.{true, false}
 use mathlib.Core.List.{List, [], _∷_}
-use Prim.Native.Nat.{ℕ}
+use Prim.Native.Nat.{ℕ, _≤_}
+use lib.ListN.{length}
 use Rattle.rtp.specs.Finding.{findOf}
 use Rattle.rtp_elements.specs.Mask.{among}
+use Rattle.suites.specs.declared.suite.Suite.{Suite}
+use Rattle.suites.specs.Suites.{saltLengthOf, lastPolicyOf}
 use Rattle.policies.specs.declared.policy.Way.{Way}
 use Rattle.session.specs.Session.{Session}
 use Rattle.session.specs.Making.{unmade, sessionOf, makeOf}
@@ -37,7 +40,10 @@ pub record OneAnswerEach : Type 0 where
   -- find in a plain packet; a refused finding hands back an empty part
   pub find-number : (p : List ℕ) (id : ℕ) → among (0 ∷ 2 ∷ 3 ∷ 4 ∷ 6 ∷ 19 ∷ []) (findOf p id .number) ≡ true
   pub find-refused : (p : List ℕ) (id : ℕ) → (findOf p id .number ≡ 0 → ⊥) → findOf p id .length ≡ 0
-  -- make; a refused making gives the one unmade session, which takes no stream
-  pub number : (key salt : List ℕ) (policy : ℕ) (ids : List ℕ) → among (0 ∷ 15 ∷ 16 ∷ []) (makeOf key salt policy ids .number) ≡ true
-  pub refused : (key salt : List ℕ) (policy : ℕ) (ids : List ℕ) → (makeOf key salt policy ids .number ≡ 0 → ⊥) → makeOf key salt policy ids .session ≡ sessionOf unmade
+  -- make, for each suite: with a key and a salt of its lengths and a policy that it takes it gives its result; a refused making gives the one unmade session, which takes no stream
+  pub number : (suite : Suite) (key salt : List ℕ) (policy : ℕ) (ids : List ℕ) → among (0 ∷ 15 ∷ 16 ∷ []) (makeOf suite key salt policy ids .number) ≡ true
+  pub taken : (suite : Suite) (key salt : List ℕ) (policy : ℕ) (ids : List ℕ) → length key ≡ 16 → length salt ≡ saltLengthOf suite → policy ≤ lastPolicyOf suite
+      → makeOf suite key salt policy ids .number ≡ 0
+  pub refused : (suite : Suite) (key salt : List ℕ) (policy : ℕ) (ids : List ℕ) → (makeOf suite key salt policy ids .number ≡ 0 → ⊥)
+      → makeOf suite key salt policy ids .session ≡ sessionOf unmade
   pub no-stream : (s : Session) → s .setup .made ≡ false → (ssrc : ℕ) (way : Way) (rollover : ℕ) → addOf s ssrc way rollover .number ≡ 15

@@ -3,6 +3,7 @@ use mathlib.Core.Path.{_≡_}
 use mathlib.Core.List.{List}
 use Prim.Native.Nat.{ℕ}
 use Rattle.bits.specs.Lists.{Each}
+use Rattle.suites.specs.declared.suite.Suite.{Suite}
 use Rattle.theorems.specs.Lists.{Call, justMade, EqualSets, Run, run, Bytes}
 use Rattle.theorems.specs.Arrivals.{ArrivalsFollowTheLedger}
 use Rattle.theorems.specs.Places.{NeighboursChangePlaces}
@@ -15,16 +16,16 @@ pub record BothHalves {S : Type 0} (policy : ℕ) (runs : List Call → Run S) (
   -- two neighbouring packet calls for different streams can change places; this needs no premise
   pub places : NeighboursChangePlaces runs calls
 
--- For two sessions just made with equal master key, master salt, policy and set of ids, each from its own list of ids, and every list of calls on them.
+-- For two sessions just made with equal suite, master key, master salt, policy and set of ids, each from its own list of ids, and every list of calls on them.
 unfoldable pub DemandThree : Type 0
 DemandThree =
-    (key salt : List ℕ) (policy : ℕ) (ids others : List ℕ) → EqualSets ids others → (calls : List Call)
-    → BothHalves policy (run (justMade key salt policy ids others)) calls
+    (suite : Suite) (key salt : List ℕ) (policy : ℕ) (ids others : List ℕ) → EqualSets ids others → (calls : List Call)
+    → BothHalves policy (run (justMade suite key salt policy ids others)) calls
 
 -- The same for the calls on lent memory, which are the calls: each memory holds the session that make gives from its own arguments, as the contract of
 -- `making::make::make` says.
 unfoldable pub DemandThreeInMemory : Type 0
 DemandThreeInMemory =
-    (key salt : List ℕ) (policy : ℕ) (ids others : List ℕ) → EqualSets ids others → (m : Memories) → Sized m
-    → decoded m ≡ justMade key salt policy ids others
+    (suite : Suite) (key salt : List ℕ) (policy : ℕ) (ids others : List ℕ) → EqualSets ids others → (m : Memories) → Sized m
+    → decoded m ≡ justMade suite key salt policy ids others
     → (calls : List Call) → Each Words32 calls → BothHalves policy (runIn m) calls

@@ -1,4 +1,4 @@
--- The premises are met: a list of calls under policy 2 with two streams, a loss, a repeat, a late packet, an old one, a packet that is refused before any
+-- The premises are met: a list of calls with the first suite, under policy 2 with two streams, a loss, a repeat, a late packet, an old one, a packet that is refused before any
 -- key is used, and indices past 65,535. The wire bytes are not computed: they stay `wireOf`.
 use mathlib.Core.Path.{_≡_}
 use mathlib.Core.List.{List, [], _∷_, _++_, map}
@@ -6,6 +6,7 @@ use Prim.Native.Nat.{ℕ}
 use lib.ListN.{length, getD, drop, replicate}
 use Rattle.bits.specs.Lists.{Each}
 use Rattle.rtp_elements.specs.Mask.{listedIn}
+use Rattle.suites.specs.declared.suite.Suite.the-variants.{CmHmac}
 use Rattle.policies.specs.declared.policy.Policy.the-variants.{CryptexRequired}
 use Rattle.policies.specs.declared.policy.Way.the-variants.{Sending, Receiving}
 use Rattle.wire.specs.Wire.{wireOf}
@@ -68,7 +69,7 @@ wrongVersion = packetOf 0x00 (0 ∷ 1 ∷ []) voiceSsrc (replicate 20 0)
 
 -- what is sent for a packet, and in a buffer with more bytes after it
 abbrev pub wire : ℕ → ℕ → List ℕ → List ℕ
-wire ssrc index p = wireOf 10 (keysOf key salt) CryptexRequired (listedIn (idsOf ids)) ssrc index p
+wire ssrc index p = wireOf CmHmac (keysOf key salt) CryptexRequired (listedIn (idsOf ids)) ssrc index p
 
 abbrev pub sending : List ℕ → Call
 sending p = protect sender (p ++ replicate 16 0) (length p)
@@ -93,7 +94,7 @@ calls =
     ∷ []
 
 abbrev pub events : List Event
-events = eventsOf (justMade key salt 2 ids others) calls
+events = eventsOf (justMade CmHmac key salt 2 ids others) calls
 
 -- which packet arrives in the calls after the receiver's add: of the voice from call 2 on, of the drums from call 4 on
 abbrev pub marked : List Mark → ℕ → Mark

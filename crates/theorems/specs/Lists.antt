@@ -4,6 +4,7 @@ use mathlib.Core.List.{List, [], _∷_}
 use Prim.Native.Nat.{ℕ, _<_}
 use lib.ListN.{getD}
 use Rattle.rtp_elements.specs.Mask.{among}
+use Rattle.suites.specs.declared.suite.Suite.{Suite}
 use Rattle.policies.specs.declared.policy.Way.{Way}
 use Rattle.policies.specs.declared.policy.Way.the-variants.{Sending}
 use Rattle.session.specs.Session.{Session, Made}
@@ -39,9 +40,11 @@ abbrev pub withSession : End → Sessions → Session → Sessions
 withSession sender s t = record { atSender = t; atReceiver = s .atReceiver }
 withSession receiver s t = record { atSender = s .atSender; atReceiver = t }
 
--- "Both sessions start just made, with equal master key, master salt, policy and set.": the sender's from a list of ids, the receiver's from another
-abbrev pub justMade : List ℕ → List ℕ → ℕ → List ℕ → List ℕ → Sessions
-justMade key salt policy ids others = record { atSender = makeOf key salt policy ids .session; atReceiver = makeOf key salt policy others .session }
+-- "Both sessions start just made, with equal master key, master salt, policy and set.": the sender's from a list of ids, the receiver's from another. Since
+-- document 02, CR 3, with equal suites too.
+abbrev pub justMade : Suite → List ℕ → List ℕ → ℕ → List ℕ → List ℕ → Sessions
+justMade suite key salt policy ids others =
+    record { atSender = makeOf suite key salt policy ids .session; atReceiver = makeOf suite key salt policy others .session }
 
 -- two lists of the same ids from 1 to 255: order, repeats and 0 do not matter, and no byte is above 255
 abbrev pub EqualSets : List ℕ → List ℕ → Type 0

@@ -14,6 +14,7 @@ use Rattle.replay.specs.Window.{blocks, width}
 use Rattle.policies.specs.declared.policy.Policy.the-variants.{Plain}
 use Rattle.policies.specs.declared.policy.Way.the-variants.{Receiving}
 use Rattle.policies.specs.Policies.{policyNumber, usesCryptex}
+use Rattle.suites.specs.Suites.{tagLengthOf}
 use Rattle.packet_cipher.specs.Cipher.{streamOf}
 use Rattle.session.specs.Session.{Record, Session}
 use Rattle.session.specs.Records.{some, recordFor}
@@ -29,8 +30,8 @@ pub record CameEncrypted (s : Session) (w after : List ℕ) : Type 0 where
   pub found : recordFor (s .records) (ssrcOf w) Receiving ≡ some stream
   pub index : ℕ
   pub judged : receiveOf blocks width (stream .replay) (stream .rollover) (seqOf w) .judged ≡ Index index
-  pub contributors : (i : ℕ) → 12 ≤ i → i < layoutOf w .extension → getD w i 0 ≡ getD after i 0 ⊕ streamOf (s .setup .keys) (ssrcOf w) index (i - 12)
-  pub block : (i : ℕ) → layoutOf w .block ≤ i → i < layoutOf w .payload → getD w i 0 ≡ getD after i 0 ⊕ streamOf (s .setup .keys) (ssrcOf w) index (i - 16)
+  pub contributors : (i : ℕ) → 12 ≤ i → i < layoutOf w .extension → getD w i 0 ≡ getD after i 0 ⊕ streamOf (s .setup .suite) (s .setup .keys) (ssrcOf w) index (i - 12)
+  pub block : (i : ℕ) → layoutOf w .block ≤ i → i < layoutOf w .payload → getD w i 0 ≡ getD after i 0 ⊕ streamOf (s .setup .suite) (s .setup .keys) (ssrcOf w) index (i - 16)
 
 -- or it had neither: X = 0 and CC = 0
 pub record HadNeither (w : List ℕ) : Type 0 where
@@ -42,7 +43,7 @@ abbrev pub plainOf : Session → Session
 plainOf s =
     record {
       setup =
-          record { made = s .setup .made; policy = Plain; key = s .setup .key; salt = s .setup .salt; ids = s .setup .ids; keys = s .setup .keys };
+          record { made = s .setup .made; suite = s .setup .suite; policy = Plain; key = s .setup .key; salt = s .setup .salt; ids = s .setup .ids; keys = s .setup .keys };
       records = s .records;
     }
 
@@ -57,7 +58,7 @@ pub record RequiredMeansRequired : Type 0 where
       → CameEncrypted s (take n buf) (unprotectOf s buf n .answer .buffer) ⊎ HadNeither (take n buf)
   -- "Under policy 2 a received packet with X = 0 and contributors is to be refused": with PROFILE, where LENGTH, SHORT, VERSION and HEADER do not apply
   pub refused : (s : Session) (buf : List ℕ) (n : ℕ) → policyNumber (s .setup .policy) ≡ 2
-      → n ≤ length buf → headerNumber (headerOf (take n buf) 10) ≡ 0
+      → n ≤ length buf → headerNumber (headerOf (take n buf) (tagLengthOf (s .setup .suite))) ≡ 0
       → hasExtension (take n buf) ≡ false → 0 < countOf (take n buf)
       → unprotectOf s buf n .answer .number ≡ 5
   -- PROFILE refuses no other packet with X = 0: without contributors, and under policy 1 with them too, all goes as under policy 0

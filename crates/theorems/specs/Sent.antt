@@ -11,7 +11,8 @@ use Rattle.rtp_header.specs.Header.{seqOf, ssrcOf}
 use Rattle.rtp_elements.specs.Mask.{listedIn}
 use Rattle.policies.specs.declared.policy.Way.the-variants.{Sending}
 use Rattle.wire.specs.Wire.{wireOf}
-use Rattle.session.specs.Making.{keysOf, idsOf, policyOf}
+use Rattle.suites.specs.declared.suite.Suite.{Suite}
+use Rattle.session.specs.Making.{fullSalt, keysOf, idsOf, policyOf}
 use Rattle.session.specs.Packets.{Answer}
 use Rattle.theorems.specs.Lists.{sender, receiver, Call, add, protect, unprotect, justMade, Event, event, added, noEvent, eventsOf, Bytes}
 
@@ -50,21 +51,21 @@ abbrev pub noPacket : Sent
 noPacket = record { index = 0; packet = []; wire = [] }
 
 -- P of each packet that a stream sends, for every list of calls, and every stream that it adds to send in the sender's session, in call i
-abbrev pub OfEachSent : (List ℕ → List ℕ → ℕ → List ℕ → ℕ → Sent → Type 0) → Type 0
+abbrev pub OfEachSent : (Suite → List ℕ → List ℕ → ℕ → List ℕ → ℕ → Sent → Type 0) → Type 0
 OfEachSent P =
-    (key salt : List ℕ) (policy : ℕ) (ids others : List ℕ) (calls : List Call) → Each Bytes calls
+    (suite : Suite) (key salt : List ℕ) (policy : ℕ) (ids others : List ℕ) (calls : List Call) → Each Bytes calls
     → (ssrc rollover i : ℕ) → rollover < 2 ^ 32
-    → getD (eventsOf (justMade key salt policy ids others) calls) i noEvent ≡ added sender ssrc Sending rollover
-    → Each (P key salt policy ids ssrc) (sentFrom ssrc rollover noneSent (eventsOf (justMade key salt policy ids others) calls))
+    → getD (eventsOf (justMade suite key salt policy ids others) calls) i noEvent ≡ added sender ssrc Sending rollover
+    → Each (P suite key salt policy ids ssrc) (sentFrom ssrc rollover noneSent (eventsOf (justMade suite key salt policy ids others) calls))
 
 -- ---- the claim
 
 -- The bytes sent are the standards', under the stream's SSRC and the index of the rule above: the index that protect used.
-pub record SentAs (key salt : List ℕ) (policy : ℕ) (ids : List ℕ) (x : ℕ) (s : Sent) : Type 0 where
+pub record SentAs (suite : Suite) (key salt : List ℕ) (policy : ℕ) (ids : List ℕ) (x : ℕ) (s : Sent) : Type 0 where
   pub ssrc : ssrcOf (s .packet) ≡ x
   pub low : s .index % 65536 ≡ seqOf (s .packet)
   pub small : s .index < 2 ^ 48
-  pub wire : s .wire ≡ wireOf 10 (keysOf key salt) (policyOf policy) (listedIn (idsOf ids)) x (s .index) (s .packet)
+  pub wire : s .wire ≡ wireOf suite (keysOf key (fullSalt salt)) (policyOf policy) (listedIn (idsOf ids)) x (s .index) (s .packet)
 
 unfoldable pub SentUnderItsIndex : Type 0
 SentUnderItsIndex = OfEachSent SentAs

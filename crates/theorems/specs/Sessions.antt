@@ -2,10 +2,13 @@
 use mathlib.Core.Path.{_≡_}
 use mathlib.Core.Bool.{true, false, not, _&&_}
 use mathlib.Core.List.{List, [], _∷_}
-use Prim.Native.Nat.{ℕ, _<_}
+use Prim.Native.Nat.{ℕ, _≤_, _<_}
 use lib.Dec.{eqb}
 use lib.ListN.{length}
 use Rattle.rtp_elements.specs.Mask.{among, listedIn}
+use Rattle.suites.specs.declared.suite.Suite.{Suite}
+use Rattle.suites.specs.Suites.{lastPolicyOf}
+use Rattle.policies.specs.Policies.{policyNumber}
 use Rattle.session.specs.Session.{Record, Session}
 use Rattle.session.specs.Records.{isFree, hasSsrc}
 use Rattle.session.specs.Making.{keysOf, idsOf, unmade, sessionOf, makeOf}
@@ -17,6 +20,8 @@ NoSsrcTwice [] = Unit {0}
 NoSsrcTwice (r ∷ l) = (isFree (r .kind) ≡ false → hasSsrc l (r .ssrc) ≡ false) × NoSsrcTwice l
 
 pub record Sound (s : Session) : Type 0 where
+  -- the policy is one that there is with its suite: no mask with GCM
+  pub policy : policyNumber (s .setup .policy) ≤ lastPolicyOf (s .setup .suite)
   -- the session keys are those derived from its master key and salt
   pub keys : s .setup .made ≡ true → s .setup .keys ≡ keysOf (s .setup .key) (s .setup .salt)
   pub not-made : s .setup .made ≡ false → s ≡ sessionOf unmade
@@ -25,16 +30,16 @@ pub record Sound (s : Session) : Type 0 where
   pub once : NoSsrcTwice (s .records)
 
 pub record SessionsAreSound : Type 0 where
-  pub made : (key salt : List ℕ) (policy : ℕ) (ids : List ℕ) → Sound (makeOf key salt policy ids .session)
+  pub made : (suite : Suite) (key salt : List ℕ) (policy : ℕ) (ids : List ℕ) → Sound (makeOf suite key salt policy ids .session)
   pub kept : (s : Session) (c : Call) → Sound s → Sound (outcomeOf s c .session)
   -- no call changes what a session was made from
   pub setup : (s : Session) (c : Call) → outcomeOf s c .session .setup ≡ s .setup
   -- so it holds after every list of calls
-  pub always : (key salt : List ℕ) (policy : ℕ) (ids others : List ℕ) (calls : List Call) (e : End) → Sound (sessionAt e (after (justMade key salt policy ids others) calls))
+  pub always : (suite : Suite) (key salt : List ℕ) (policy : ℕ) (ids others : List ℕ) (calls : List Call) (e : End) → Sound (sessionAt e (after (justMade suite key salt policy ids others) calls))
 
 -- Equal sets of ids give equal sessions.
 pub record EqualSetsEqualSessions : Type 0 where
-  pub equal : (key salt : List ℕ) (policy : ℕ) (ids others : List ℕ) → EqualSets ids others → makeOf key salt policy ids ≡ makeOf key salt policy others
+  pub equal : (suite : Suite) (key salt : List ℕ) (policy : ℕ) (ids others : List ℕ) → EqualSets ids others → makeOf suite key salt policy ids ≡ makeOf suite key salt policy others
 
 -- The four words that a session keeps are its set of ids: those from 1 to 255 in the list.
 pub record WordsAreTheSet : Type 0 where

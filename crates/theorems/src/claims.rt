@@ -7,7 +7,7 @@ ghost use Rattle.theorems.specs.Memories.{AnswersAsSessions};
 ghost use Rattle.theorems.specs.Required.{RequiredMeansRequired};
 ghost use Rattle.theorems.specs.Sent.{SentUnderItsIndex};
 ghost use Rattle.theorems.specs.Sums.{SumsHold};
-ghost use Rattle.theorems.specs.Tags.{TagsAreHmac};
+ghost use Rattle.theorems.specs.Tags.{TagsAreTheStandards};
 ghost use Rattle.theorems.specs.Sessions.{SessionsAreSound, EqualSetsEqualSessions, WordsAreTheSet};
 
 // Demand 1: a call gives its result or one of its numbers, and a refusal changes nothing.
@@ -15,7 +15,7 @@ pub fn one_answer_each()
     ensures { λ _. ⌜ OneAnswerEach ⌝ }
 {}
 
-// A made session has the keys of its master key and salt, an unmade one is the fixed one; each has at most 32 streams and no SSRC twice.
+// A made session has the keys of its master key and salt and a policy that its suite takes, an unmade one is the fixed one; each has at most 32 streams and no SSRC twice.
 pub fn sessions_are_sound()
     ensures { λ _. ⌜ SessionsAreSound ⌝ }
 {}
@@ -35,9 +35,9 @@ pub fn packets_are_sent_under_their_index()
     ensures { λ _. ⌜ SentUnderItsIndex ⌝ }
 {}
 
-// And each ends with its tag, which is HMAC-SHA1's under the derived authentication key.
-pub fn tags_are_hmac()
-    ensures { λ _. ⌜ TagsAreHmac ⌝ }
+// And each ends with its tag, which is HMAC-SHA1's or GCM's under the derived keys.
+pub fn tags_are_the_standards()
+    ensures { λ _. ⌜ TagsAreTheStandards ⌝ }
 {}
 
 // Required Cryptex: whatever unprotect accepts came with contributors and extension encrypted, or had neither.

@@ -1,15 +1,18 @@
-// Published test vectors, and two packets of libsrtp's, through the proved code: `stdin` beside src/ has them, `stdout` what was published, or sent by it.
-// Follows FIPS 197 (appendices B and C.1), SP 800-38A (F.1.1), FIPS 180 (examples), RFC 2202 (section 3), RFC 3711 (B.2, B.3), RFC 6904 (A.1, A.2) and RFC 9335 (A.1).
+// Published test vectors, and three packets of libsrtp's, through the proved code: `stdin` beside src/ has them, `stdout` what was published, or sent by it.
+// Follows FIPS 197 (appendices B and C.1), SP 800-38A (F.1.1), FIPS 180 (examples), RFC 2202 (section 3), RFC 3711 (B.2, B.3),
+// the submission of GCM to NIST (appendix B, cases 1 to 4), RFC 6904 (A.1, A.2) and RFC 9335 (A.1, A.2).
 use cipher_vectors::ciphers;
 use cipher_vectors::hashes;
+use cipher_vectors::sealed;
 use extension_vectors::extensions;
 use libc::STDIN_FILENO;
 use lines::asked::take_apart;
 use packet_vectors::packets;
+use suites::suite::Suite;
 use text::words::place_of;
 
 // A vector of up to three words of hex. What they are for, the first letter of the word behind the name says: aes, sha1, repeated, hmac, keystream,
-// neighbours, derived, pad, mask, element, cryptex or both. `number` is the last one in the name.
+// neighbours, derived, gcm, pad, mask, element, cryptex or both; with GCM wire. `number` is the last one in the name.
 fn vector(kind: u8, number: u64, name: &[u8], a: &[u8], b: &[u8], c: &mut [u8]) {
     match kind {
         b'a' => ciphers::block(a, b),
@@ -19,11 +22,13 @@ fn vector(kind: u8, number: u64, name: &[u8], a: &[u8], b: &[u8], c: &mut [u8]) 
         b'k' => ciphers::keystream(a, b, number),
         b'n' => ciphers::neighbours(a, b, number),
         b'd' => ciphers::derived(a, b, number),
+        b'g' => sealed::sealed(a, b, number, c),
         b'p' => extensions::pad(a, b),
         b'm' => extensions::masked(a, b, c),
         b'e' => extensions::element(a, number),
-        b'c' => packets::both_ways(name, 1, a, b, c),
-        b'b' => packets::both_ways(name, number, a, b, c),
+        b'c' => packets::both_ways(name, 1, Suite::CmHmac, a, b, c),
+        b'b' => packets::both_ways(name, number, Suite::CmHmac, a, b, c),
+        b'w' => packets::both_ways(name, number, Suite::Gcm, a, b, c),
         _ => {}
     }
 }

@@ -4,3 +4,4 @@ pub mod RoundTrips
 pub mod Sizes
 pub mod Tagging
 pub mod Restoring
+pub mod Arriving

@@ -1,5 +1,5 @@
 -- What is sent is given back.
-use mathlib.Core.Path.{_≡_, refl, sym, ap, _∙_}
+use mathlib.Core.Path.{_≡_, refl, sym, ap, ap₂, _∙_}
 use mathlib.Core.Bool.{Bool, true, false, not, _&&_, _||_}
 use mathlib.Core.Logic.{_⊎_, inl, inr}
 use mathlib.Core.List.{List, _++_}
@@ -22,14 +22,18 @@ use Rattle.policies.specs.declared.policy.Policy.the-variants.{Plain, Cryptex, 
 use Rattle.policies.specs.declared.policy.Way.{Way}
 use Rattle.policies.specs.declared.policy.Way.the-variants.{Sending, Receiving}
 use Rattle.packet_cipher.specs.Cipher.{streamOf, headerStreamOf, cipherOf}
+use Rattle.packet_cipher.specs.Tag.{tagOf}
+use Rattle.suites.specs.declared.suite.Suite.{Suite}
+use Rattle.suites.specs.Suites.{tagLengthOf}
 use Rattle.wire.specs.Claims.{Cipher, RoundTrip, AnyCipher, SentIsGivenBack, SendingAlike, CryptexLooksAtNone}
 use Rattle.policies.specs.Cryptex.{isCryptexTag, taggedOf, untaggedOf}
-use Rattle.wire.specs.Wire.{givenBackOf, bodyBy, wireBy, restoreBy, tagOf, wireOf, restoreOf}
+use Rattle.wire.specs.Wire.{givenBackOf, bodyBy, wireBy, restoreBy, wireOf, restoreOf}
 use Rattle.policies.specs.Judging.{tailOf, profileFits, elementsFit, addedOf, sizeFits, judgedAfter, judgedOf}
 use Rattle.policies.specs.Policies.{usesCryptex, usesMask}
 use Rattle.packet_cipher.proofs.Crypting.{crypted-stays, crypted-length, crypted-twice, crypted-alike, whole-by}
 use Rattle.wire.proofs.Forms.{Ready, Tagged, tagged, GivenBack, given-back}
-use Rattle.wire.proofs.Wires.{tag-length, ends-fit, wire-ends}
+use Rattle.packet_cipher.proofs.Tagging.{tag-length, tag-alike}
+use Rattle.wire.proofs.Wires.{ends-fit, wire-ends}
 use Rattle.policies.proofs.Layouts.{apart, sound, layout-x, layout-count, layout-same}
 
 -- ---- a packet that is not refused with 2 to 7
@@ -243,15 +247,16 @@ any-cipher =
       back = λ policy encrypt decrypt law t tag p tags bytes sent. round-trip policy encrypt decrypt law t tag p tags bytes (passed Sending policy t p sent);
     }
 
--- ---- AES-CM and HMAC-SHA1
+-- ---- every suite
 
-lawful : (keys : Keys) (policy : Policy) (listed : ℕ → Bool) (ssrc index : ℕ) → Cipher policy (cipherOf keys policy listed ssrc index) (cipherOf keys policy listed ssrc index)
-lawful keys policy listed ssrc index =
+lawful : (suite : Suite) (keys : Keys) (policy : Policy) (listed : ℕ → Bool) (ssrc index : ℕ)
+    → Cipher policy (cipherOf suite keys policy listed ssrc index) (cipherOf suite keys policy listed ssrc index)
+lawful suite keys policy listed ssrc index =
     record {
-      same-length = crypted-length policy listed (streamOf keys ssrc index) (headerStreamOf keys ssrc index);
-      stays = crypted-stays policy listed (streamOf keys ssrc index) (headerStreamOf keys ssrc index);
-      undone = crypted-twice policy listed (streamOf keys ssrc index) (headerStreamOf keys ssrc index);
-      elements = whole-by policy listed (streamOf keys ssrc index) (headerStreamOf keys ssrc index);
+      same-length = crypted-length policy listed (streamOf suite keys ssrc index) (headerStreamOf suite keys ssrc index);
+      stays = crypted-stays policy listed (streamOf suite keys ssrc index) (headerStreamOf suite keys ssrc index);
+      undone = crypted-twice policy listed (streamOf suite keys ssrc index) (headerStreamOf suite keys ssrc index);
+      elements = whole-by policy listed (streamOf suite keys ssrc index) (headerStreamOf suite keys ssrc index);
     }
 
 pub sent-is-given-back : SentIsGivenBack
@@ -260,10 +265,12 @@ sent-is-given-back =
     record {
       lawful = lawful;
       back =
-          λ keys policy listed ssrc index t p h bytes sent.
-          round-trip policy (cipherOf keys policy listed ssrc index) (cipherOf keys policy listed ssrc index) (lawful keys policy listed ssrc index) t (tagOf t keys index) p
-          (tag-length t keys index h) bytes (passed Sending policy t p sent);
-      fits = λ t h keys policy listed ssrc index p. ends-fit t keys index (wireOf t keys policy listed ssrc index p) (wire-ends t keys index policy listed ssrc h p);
+          λ suite keys policy listed ssrc index p bytes sent.
+          round-trip policy (cipherOf suite keys policy listed ssrc index) (cipherOf suite keys policy listed ssrc index) (lawful suite keys policy listed ssrc index)
+          (tagLengthOf suite) (tagOf suite keys policy ssrc index) p (tag-length suite keys policy ssrc index) bytes (passed Sending policy (tagLengthOf suite) p sent);
+      fits =
+          λ suite keys policy listed ssrc index p.
+          ends-fit suite keys policy ssrc index (wireOf suite keys policy listed ssrc index p) (wire-ends suite keys policy ssrc index listed p);
     }
 
 -- ---- policies 1 and 2
@@ -274,9 +281,11 @@ sending-alike =
     record {
       judged = λ t p. judged-alike t p (headerOf p 0);
       wire =
-          λ t keys listed ssrc index p.
-          ap (λ (b : List ℕ). b ++ tagOf t keys index b)
-          (crypted-alike listed (streamOf keys ssrc index) (headerStreamOf keys ssrc index) (taggedOf Cryptex (givenBackOf Cryptex p)));
+          λ suite keys listed ssrc index p.
+          ap₂ (λ (u v : List ℕ). u ++ v)
+          (crypted-alike listed (streamOf suite keys ssrc index) (headerStreamOf suite keys ssrc index) (taggedOf Cryptex (givenBackOf Cryptex p)))
+          (tag-alike suite keys ssrc index _ _
+          (crypted-alike listed (streamOf suite keys ssrc index) (headerStreamOf suite keys ssrc index) (taggedOf Cryptex (givenBackOf Cryptex p))));
     }
   where
     judged-alike : (t : ℕ) (p : List ℕ) (h : Header) → judgedAfter Sending CryptexRequired t p h ≡ judgedAfter Sending Cryptex t p h

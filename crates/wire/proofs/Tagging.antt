@@ -84,21 +84,21 @@ front-is n l = let z : n - 0 ≡ n = omega arith in ap (λ (k : ℕ). take k l) 
 pub back-is : (n : ℕ) (l : List ℕ) → drop (n - 0) (drop 0 l) ≡ drop n l
 back-is n l = let z : n - 0 ≡ n = omega arith in ap (λ (k : ℕ). drop k l) z
 
-module _ (policy : Policy) (l : List ℕ) (n : ℕ) (h : Layout) (inside : n ≤ length l) (e : judgedOf Sending policy 10 (take n l) ≡ Read h) where
+module _ (t : ℕ) (policy : Policy) (l : List ℕ) (n : ℕ) (h : Layout) (inside : n ≤ length l) (e : judgedOf Sending policy t (take n l) ≡ Read h) where
   pub read : h ≡ layoutOf (take n l)
-  read = judged-layout Sending policy 10 (take n l) h e
+  read = judged-layout Sending policy t (take n l) h e
 
   pub count : length (take n l) ≡ n
   count = length-take-le n l inside
 
   pub fits : h .payload ≤ length (take n l)
-  fits = let d = judged-passed Sending policy 10 (take n l) h e in rw read (omega (arith, d .fits))
+  fits = let d = judged-passed Sending policy t (take n l) h e in rw read (omega (arith, d .fits))
 
   pub elements : elementsFit policy h (take n l) ≡ true
-  elements = let d = judged-passed Sending policy 10 (take n l) h e in rw read (d .elements)
+  elements = let d = judged-passed Sending policy t (take n l) h e in rw read (d .elements)
 
-  pub small : n + pick (addsBlock policy h) 4 0 ≤ 2038
-  small = let d = judged-passed Sending policy 10 (take n l) h e in rw read (omega (arith, d .size, count))
+  pub small : n + pick (addsBlock policy h) 4 0 + t ≤ 2048
+  small = let d = judged-passed Sending policy t (take n l) h e in rw read (omega (arith, d .size, count))
 
   pub not-added : addsBlock policy h ≡ false → take n l ≡ givenBackOf policy (take n l)
   unfolding givenBackOf
@@ -123,7 +123,7 @@ module _ (policy : Policy) (l : List ℕ) (n : ℕ) (h : Layout) (inside : n ≤
 
     pub first-below : getD l 0 0 < 240
     first-below =
-        let d = judged-passed Sending policy 10 (take n l) h e in
+        let d = judged-passed Sending policy t (take n l) h e in
         let g : getD (take n l) 0 0 ≡ getD l 0 0 = getD-take n l 0 0 (omega (arith, d .long, count)) in
         omega (arith, d .version)
 

@@ -7,6 +7,8 @@ use Prim.Native.Nat.{ℕ, _+_, _≤_, _<_}
 use lib.ListN.{length, getD}
 use Rattle.rtp_elements.specs.Elements.{wholeOf}
 use Rattle.rtp_header.specs.Header.{layoutOf, blockOf, headerNumber}
+use Rattle.suites.specs.declared.suite.Suite.{Suite}
+use Rattle.suites.specs.Suites.{tagLengthOf}
 use Rattle.packet_cipher.specs.declared.keys.Keys.{Keys}
 use Rattle.policies.specs.declared.policy.Policy.{Policy}
 use Rattle.policies.specs.declared.policy.Policy.the-variants.{Cryptex, CryptexRequired}
@@ -44,24 +46,24 @@ pub record AnyCipher : Type 0 where
       → headerNumber (judgedOf Sending policy t p) ≡ 0
       → RoundTrip policy t p (wireBy policy encrypt tag p) (restoreBy policy decrypt t (wireBy policy encrypt tag p))
 
--- for AES-CM and HMAC-SHA1, under any keys, SSRC and index, with tags of up to 20 bytes
+-- for every suite, under any keys, SSRC and index; t is the suite's
 pub record SentIsGivenBack : Type 0 where
-  pub lawful : (keys : Keys) (policy : Policy) (listed : ℕ → Bool) (ssrc index : ℕ)
-      → Cipher policy (cipherOf keys policy listed ssrc index) (cipherOf keys policy listed ssrc index)
-  pub back : (keys : Keys) (policy : Policy) (listed : ℕ → Bool) (ssrc index t : ℕ) (p : List ℕ)
-      → t ≤ 20
+  pub lawful : (suite : Suite) (keys : Keys) (policy : Policy) (listed : ℕ → Bool) (ssrc index : ℕ)
+      → Cipher policy (cipherOf suite keys policy listed ssrc index) (cipherOf suite keys policy listed ssrc index)
+  pub back : (suite : Suite) (keys : Keys) (policy : Policy) (listed : ℕ → Bool) (ssrc index : ℕ) (p : List ℕ)
       → ((i : ℕ) → getD p i 0 < 256)
-      → headerNumber (judgedOf Sending policy t p) ≡ 0
-      → RoundTrip policy t p (wireOf t keys policy listed ssrc index p) (restoreOf t keys policy listed ssrc index (wireOf t keys policy listed ssrc index p))
+      → headerNumber (judgedOf Sending policy (tagLengthOf suite) p) ≡ 0
+      → RoundTrip policy (tagLengthOf suite) p (wireOf suite keys policy listed ssrc index p)
+      (restoreOf suite keys policy listed ssrc index (wireOf suite keys policy listed ssrc index p))
   -- and its tag is the one that the receiver wants
-  pub fits : (t : ℕ) → t ≤ 20 → (keys : Keys) (policy : Policy) (listed : ℕ → Bool) (ssrc index : ℕ) (p : List ℕ)
-      → tagFits t keys index (wireOf t keys policy listed ssrc index p) ≡ true
+  pub fits : (suite : Suite) (keys : Keys) (policy : Policy) (listed : ℕ → Bool) (ssrc index : ℕ) (p : List ℕ)
+      → tagFits suite keys policy ssrc index (wireOf suite keys policy listed ssrc index p) ≡ true
 
 -- document 01: "Sending under 1 and 2 is the same."
 pub record SendingAlike : Type 0 where
   pub judged : (t : ℕ) (p : List ℕ) → judgedOf Sending CryptexRequired t p ≡ judgedOf Sending Cryptex t p
-  pub wire : (t : ℕ) (keys : Keys) (listed : ℕ → Bool) (ssrc index : ℕ) (p : List ℕ)
-      → wireOf t keys CryptexRequired listed ssrc index p ≡ wireOf t keys Cryptex listed ssrc index p
+  pub wire : (suite : Suite) (keys : Keys) (listed : ℕ → Bool) (ssrc index : ℕ) (p : List ℕ)
+      → wireOf suite keys CryptexRequired listed ssrc index p ≡ wireOf suite keys Cryptex listed ssrc index p
 
 -- Under 1 and 2 no refusal from 2 to 7 looks at the bytes of contributing sources, block or payload: elements in a Cryptex block are not read.
 pub record CryptexLooksAtNone : Type 0 where

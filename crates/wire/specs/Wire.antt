@@ -1,16 +1,17 @@
--- RFC 3711, 3.1, 3.3 and 4.2: the packet on the wire, and the packet that is given back. t is the length of the authentication tag.
+-- RFC 3711, 3.1 and 3.3, and RFC 7714, 5.2 and 8.2: the packet on the wire, and the packet that is given back. t is the length of the authentication tag.
 use mathlib.Core.Bool.{Bool}
 use mathlib.Core.List.{List, _++_}
-use Prim.Native.Nat.{ℕ, _-_, _/_, _^_}
+use Prim.Native.Nat.{ℕ, _-_}
 use lib.ListN.{length, take, drop}
-use Rattle.bits.specs.BigEndian.{toBytes}
 use Rattle.bits.specs.Pick.{pick}
-use Rattle.hmac.specs.Steps.{macOf}
-use Rattle.hmac.specs.Tag.{sameOf}
+use Rattle.tags.specs.Tag.{sameOf}
 use Rattle.rtp_header.specs.Header.{layoutOf}
 use Rattle.packet_cipher.specs.declared.keys.Keys.{Keys}
 use Rattle.policies.specs.declared.policy.Policy.{Policy}
+use Rattle.suites.specs.declared.suite.Suite.{Suite}
+use Rattle.suites.specs.Suites.{tagLengthOf}
 use Rattle.packet_cipher.specs.Cipher.{cipherOf}
+use Rattle.packet_cipher.specs.Tag.{tagOf}
 use Rattle.policies.specs.Cryptex.{addsBlock, withBlock, taggedOf, untaggedOf}
 
 -- ---- for any cipher and any authenticator
@@ -30,21 +31,17 @@ wireBy policy encrypt tagOf p = bodyBy policy encrypt p ++ tagOf (bodyBy policy 
 unfoldable pub restoreBy : Policy → (List ℕ → List ℕ) → ℕ → List ℕ → List ℕ
 restoreBy policy decrypt t w = untaggedOf policy (decrypt (take (length w - t) w))
 
--- ---- AES-CM and HMAC-SHA1
-
--- 4.2: the first t bytes of the MAC over M, which is the authenticated portion and then the rollover counter, i / 65,536, in 32 bits.
--- `keys .auth` holds the key's states, from which `macOf` makes HMAC (`KeyStatesGiveTheMac`).
-unfoldable pub tagOf : ℕ → Keys → ℕ → List ℕ → List ℕ
-tagOf t keys index portion = take t (macOf (keys .auth) (portion ++ toBytes 4 (index / 2 ^ 16)))
+-- ---- by the suite
 
 -- what is sent
-unfoldable pub wireOf : ℕ → Keys → Policy → (ℕ → Bool) → ℕ → ℕ → List ℕ → List ℕ
-wireOf t keys policy listed ssrc index p = wireBy policy (cipherOf keys policy listed ssrc index) (tagOf t keys index) p
+unfoldable pub wireOf : Suite → Keys → Policy → (ℕ → Bool) → ℕ → ℕ → List ℕ → List ℕ
+wireOf suite keys policy listed ssrc index p = wireBy policy (cipherOf suite keys policy listed ssrc index) (tagOf suite keys policy ssrc index) p
 
 -- what is given back
-unfoldable pub restoreOf : ℕ → Keys → Policy → (ℕ → Bool) → ℕ → ℕ → List ℕ → List ℕ
-restoreOf t keys policy listed ssrc index w = restoreBy policy (cipherOf keys policy listed ssrc index) t w
+unfoldable pub restoreOf : Suite → Keys → Policy → (ℕ → Bool) → ℕ → ℕ → List ℕ → List ℕ
+restoreOf suite keys policy listed ssrc index w = restoreBy policy (cipherOf suite keys policy listed ssrc index) (tagLengthOf suite) w
 
--- 3.3: the tag of a received packet is the one that its bytes before the tag should have
-unfoldable pub tagFits : ℕ → Keys → ℕ → List ℕ → Bool
-tagFits t keys index w = sameOf (tagOf t keys index (take (length w - t) w)) (drop (length w - t) w)
+-- the tag of a received packet is the one that its bytes before the tag should have
+unfoldable pub tagFits : Suite → Keys → Policy → ℕ → ℕ → List ℕ → Bool
+tagFits suite keys policy ssrc index w =
+    sameOf (tagOf suite keys policy ssrc index (take (length w - tagLengthOf suite) w)) (drop (length w - tagLengthOf suite) w)

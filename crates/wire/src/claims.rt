@@ -6,7 +6,7 @@ pub fn any_lawful_cipher_gives_back()
     ensures { λ _. ⌜ AnyCipher ⌝ }
 {}
 
-// And so do AES-CM and HMAC-SHA1: the packet comes back, with the empty block where Cryptex adds one, and no other byte changed.
+// And so does each suite: the packet comes back, with the empty block where Cryptex adds one, and no other byte changed.
 pub fn sent_is_given_back()
     ensures { λ _. ⌜ SentIsGivenBack ⌝ }
 {}

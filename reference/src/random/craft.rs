@@ -1,6 +1,7 @@
 //! Random packets and extension blocks, well-formed and hostile, in the layout of document 01.
 
 use super::dice::Dice;
+use crate::suite::Suite;
 
 /// A packet in parts. What byte 0 and the count claim need not be what is there.
 #[derive(Clone)]
@@ -43,8 +44,9 @@ impl Draft {
         (policy == 1 || policy == 2) && !self.has_extension && self.claimed_contributors > 0
     }
 
-    pub fn protected_length(&self, policy: u64) -> usize {
-        self.bytes().len() + 10 + if self.takes_added_block(policy) { 4 } else { 0 }
+    pub fn protected_length(&self, suite: Suite, policy: u64) -> usize {
+        let added = if self.takes_added_block(policy) { 4 } else { 0 };
+        self.bytes().len() + added + suite.tag_length()
     }
 
     pub fn set_contributors(&mut self, dice: &mut Dice, count: u8) {

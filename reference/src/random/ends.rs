@@ -4,10 +4,14 @@
 use super::craft;
 use super::dice::Dice;
 use super::stage::{Answer, Stage};
+use crate::suite::Suite;
 
 pub struct Ends {
     pub sender: u64,
     pub receiver: u64,
+    /// Of both ends.
+    pub suite: Suite,
+    /// Of the sender.
     pub policy: u64,
 }
 
@@ -19,8 +23,19 @@ pub struct Stream {
     pub sent: Vec<Vec<u8>>,
 }
 
-pub fn keys(dice: &mut Dice) -> (Vec<u8>, Vec<u8>) {
-    (dice.bytes(16), dice.bytes(14))
+/// A master key and a salt of the suite's length.
+pub fn keys(dice: &mut Dice, suite: Suite) -> (Vec<u8>, Vec<u8>) {
+    (dice.bytes(16), dice.bytes(suite.salt_length()))
+}
+
+/// Either suite, where both have these policies.
+pub fn suite(dice: &mut Dice, policies: &[u64]) -> Suite {
+    let is_for_both = policies.iter().all(|policy| *policy < 3);
+    if is_for_both && dice.below(5) < 2 {
+        Suite::Gcm
+    } else {
+        Suite::CounterMode
+    }
 }
 
 /// Id sets as a caller may write them: empty, with repeats, with 0, with ids no block can hold.
@@ -60,14 +75,24 @@ impl Ends {
     }
 
     pub fn open_with(stage: &mut Stage, policy: u64, receiver_policy: u64) -> Option<Ends> {
+        let suite = suite(&mut stage.dice, &[policy, receiver_policy]);
+        Ends::open_as(stage, suite, policy, receiver_policy)
+    }
+
+    pub fn open_as(
+        stage: &mut Stage,
+        suite: Suite,
+        policy: u64,
+        receiver_policy: u64,
+    ) -> Option<Ends> {
         let sender = stage.dice.below(8);
         let receiver = (sender + stage.dice.between(1, 7)) % 8;
-        let (key, salt) = keys(&mut stage.dice);
+        let (key, salt) = keys(&mut stage.dice, suite);
         let set = ids(&mut stage.dice);
         let other_set = if stage.dice.one_in(12) { ids(&mut stage.dice) } else { set.clone() };
-        stage.make(sender, (&key, &salt), policy, &set)?;
-        stage.make(receiver, (&key, &salt), receiver_policy, &other_set)?;
-        Some(Ends { sender, receiver, policy })
+        stage.make(sender, suite, (&key, &salt), policy, &set)?;
+        stage.make(receiver, suite, (&key, &salt), receiver_policy, &other_set)?;
+        Some(Ends { sender, receiver, suite, policy })
     }
 
     /// Adds a stream at both ends, mostly with equal starting rollover.
@@ -104,7 +129,7 @@ impl Ends {
     ) -> Option<Answer> {
         let mut buffer = draft.bytes();
         let n = buffer.len();
-        let needed = draft.protected_length(self.policy) - n;
+        let needed = draft.protected_length(self.suite, self.policy) - n;
         // Exactly enough room, one byte less, or more.
         let spare = match stage.dice.below(24) {
             0 => needed - 1,
@@ -138,12 +163,13 @@ impl Ends {
 }
 
 /// A copy with something wrong: a byte, the tag, the length, the sequence number, another SSRC.
-pub fn damaged(dice: &mut Dice, wire: &[u8]) -> Vec<u8> {
+pub fn damaged(dice: &mut Dice, suite: Suite, wire: &[u8]) -> Vec<u8> {
     let mut copy = wire.to_vec();
     let length = copy.len();
+    let tag_begin = length.saturating_sub(suite.tag_length());
     match dice.below(9) {
         0 | 1 => craft::change_a_byte(dice, &mut copy),
-        2 | 7 if length >= 10 => craft::change_a_byte(dice, &mut copy[length - 10..]),
+        2 | 7 => craft::change_a_byte(dice, &mut copy[tag_begin..]),
         3 if length >= 12 => craft::change_a_byte(dice, &mut copy[..12]),
         4 => copy.truncate(dice.size(0, length)),
         5 => copy.truncate(length.saturating_sub(1)),

@@ -8,8 +8,9 @@ use super::stage::Stage;
 /// Numbers for n that a sum would overflow or that lie around the buffer's length.
 fn told_length(stage: &mut Stage, length: usize) -> u64 {
     let length = length as u64;
-    let near = stage.dice.pick(&[length, length, length + 1, length + 10]);
-    stage.dice.pick(&[near, near, 1 << 32, 1 << 63, u64::MAX, u64::MAX - 9, u64::MAX - 13])
+    let near = stage.dice.pick(&[length, length, length + 1, length + 10, length + 16]);
+    let wraps = u64::MAX - stage.dice.pick(&[0, 9, 13, 15, 19]);
+    stage.dice.pick(&[near, near, near, 1 << 32, 1 << 63, u64::MAX, wraps, wraps])
 }
 
 /// Puts a random header form on a packet: contributors or not, a block or not.
@@ -28,7 +29,7 @@ fn of_protected_length(stage: &mut Stage, ends: &Ends, stream: &Stream, target: 
     let sequence = stream.last.wrapping_add(1);
     let mut draft = craft::bare(&mut stage.dice, stream.ssrc, sequence, 0);
     form(stage, &mut draft);
-    let payload = target.saturating_sub(draft.protected_length(ends.policy));
+    let payload = target.saturating_sub(draft.protected_length(ends.suite, ends.policy));
     draft.payload = stage.dice.bytes(payload);
     draft
 }
@@ -67,7 +68,7 @@ fn oversized(stage: &mut Stage, ends: &Ends, stream: &Stream) -> Option<()> {
     draft.payload = stage.dice.bytes(payload);
     let mut buffer = draft.bytes();
     let n = buffer.len() as u64;
-    let room = stage.dice.pick(&[0, 9, 10, 14]);
+    let room = stage.dice.pick(&[0, 9, 10, 14, 15, 16, 20]);
     buffer.extend(stage.dice.bytes(room));
     stage.protect(ends.sender, n, &buffer)?;
     stage.unprotect(ends.receiver, buffer.len() as u64, &buffer)?;
@@ -96,7 +97,7 @@ pub fn room(stage: &mut Stage) -> Option<()> {
     for _ in 0..stage.dice.between(6, 14) {
         let target = stage.dice.size(22, 90);
         let draft = of_protected_length(stage, &ends, &stream, target);
-        let (mut buffer, needed) = (draft.bytes(), draft.protected_length(policy));
+        let (mut buffer, needed) = (draft.bytes(), draft.protected_length(ends.suite, policy));
         let n = buffer.len() as u64;
         let most = if stage.dice.one_in(20) { 4_096 } else { needed + 9 };
         let size = stage.dice.pick(&[needed - 1, needed, needed + 1, needed - 4, n as usize, most]);
@@ -113,7 +114,8 @@ pub fn room(stage: &mut Stage) -> Option<()> {
     ends.states(stage)
 }
 
-/// Headers that end before, at and behind the packet's end, and packets around 12 and 22 bytes.
+/// Headers that end before, at and behind the packet's end, and packets around 12 bytes and 12 bytes
+/// and a tag.
 pub fn brink(stage: &mut Stage) -> Option<()> {
     let policy = stage.dice.below(4);
     let (ends, mut stream) = ends_and_stream(stage, policy)?;
@@ -134,8 +136,8 @@ pub fn brink(stage: &mut Stage) -> Option<()> {
     ends.states(stage)
 }
 
-/// The same bytes, cut or lengthened a little, to protect, to find and, with ten bytes for a tag,
-/// to unprotect.
+/// The same bytes, cut or lengthened a little, to protect, to find and, with bytes for a tag, to
+/// unprotect.
 fn try_cut(stage: &mut Stage, ends: &Ends, packet: &[u8]) -> Option<()> {
     let mut packet = packet.to_vec();
     let cut = stage.dice.pick(&[0, 0, 1, 1, 2, 3, 4, 5, 8]);
@@ -147,12 +149,12 @@ fn try_cut(stage: &mut Stage, ends: &Ends, packet: &[u8]) -> Option<()> {
         0 => stage.find(1, &packet)?,
         1 => {
             let mut buffer = packet.clone();
-            buffer.extend(stage.dice.bytes(14));
+            buffer.extend(stage.dice.bytes(20));
             stage.protect(ends.sender, n, &buffer)?
         }
         _ => {
-            packet.extend(stage.dice.bytes(10));
-            stage.unprotect(ends.receiver, n + 10, &packet)?
+            packet.extend(stage.dice.bytes(ends.suite.tag_length()));
+            stage.unprotect(ends.receiver, packet.len() as u64, &packet)?
         }
     };
     Some(())

@@ -10,8 +10,9 @@ use super::stage::Stage;
 use crate::elements::{self, IdSet};
 use crate::header::ONE_BYTE;
 use crate::hex;
+use crate::suite::Suite;
 
-const EQUAL: Ends = Ends { sender: 0, receiver: 1, policy: 3 };
+const EQUAL: Ends = Ends { sender: 0, receiver: 1, suite: Suite::CounterMode, policy: 3 };
 /// The receiver with another list.
 const OTHER: Ends = Ends { receiver: 2, ..EQUAL };
 
@@ -42,7 +43,7 @@ pub fn masked(stage: &mut Stage) -> Option<()> {
 }
 
 fn open(stage: &mut Stage) -> Option<Track> {
-    let (key, salt) = ends::keys(&mut stage.dice);
+    let (key, salt) = ends::keys(&mut stage.dice, EQUAL.suite);
     let (list, another) = (list(&mut stage.dice), list(&mut stage.dice));
     let any = ends::ids(&mut stage.dice);
     let other = stage.dice.pick(&[another, any]);
@@ -50,7 +51,7 @@ fn open(stage: &mut Stage) -> Option<Track> {
     let rollover = stage.dice.pick(&[0, 0, 1, 65_535, u32::MAX - 1, any]);
     let first = ends::sequence(&mut stage.dice);
     for (session, way, list) in [(0, "s", &list), (1, "r", &list), (2, "r", &other)] {
-        stage.make(session, (&key, &salt), EQUAL.policy, list)?;
+        stage.make(session, EQUAL.suite, (&key, &salt), EQUAL.policy, list)?;
         stage.add(session, ssrc, way, rollover)?;
     }
     let stream = Stream { ssrc, last: first.wrapping_sub(1), sent: Vec::new() };

@@ -3,16 +3,19 @@
 
 pub mod craft;
 pub mod dice;
+pub mod edges;
 pub mod ends;
 pub mod layout;
 pub mod limits;
 pub mod masked;
 pub mod pieces;
 pub mod required;
+pub mod sealed;
 pub mod single;
 pub mod spoil;
 pub mod stage;
 pub mod stretches;
+pub mod suites;
 pub mod talk;
 
 use stage::Stage;
@@ -22,24 +25,27 @@ type Scene = fn(&mut Stage) -> Option<()>;
 
 /// The scenes, each with how often it comes relative to the others. Their order decides what a seed
 /// gives: with this one, 3,000 calls of seed 9335 already meet every refusal.
-const SCENES: [(&str, u64, Scene); 17] = [
-    ("talk", 6, talk::talk),
-    ("window", 3, talk::window),
-    ("late", 1, talk::late),
-    ("far", 3, talk::far),
-    ("pieces", 2, pieces::pieces),
-    ("stretches", 4, stretches::stretches),
-    ("last", 4, talk::last),
-    ("required", 2, required::required),
+const SCENES: [(&str, u64, Scene); 20] = [
     ("cross", 4, talk::cross),
-    ("sizes", 2, limits::sizes),
-    ("room", 2, limits::room),
-    ("masked", 2, masked::masked),
-    ("brink", 3, limits::brink),
-    ("full", 1, limits::full),
-    ("keys", 2, single::keys),
-    ("hostile", 4, single::hostile),
+    ("required", 3, required::required),
     ("single", 5, single::single),
+    ("suites", 3, suites::suites),
+    ("far", 3, talk::far),
+    ("hostile", 4, single::hostile),
+    ("room", 2, limits::room),
+    ("keys", 2, single::keys),
+    ("late", 1, talk::late),
+    ("masked", 3, masked::masked),
+    ("sealed", 4, sealed::sealed),
+    ("pieces", 2, pieces::pieces),
+    ("stretches", 5, stretches::stretches),
+    ("talk", 6, talk::talk),
+    ("edges", 3, edges::edges),
+    ("last", 4, talk::last),
+    ("brink", 3, limits::brink),
+    ("window", 3, talk::window),
+    ("full", 2, limits::full),
+    ("sizes", 2, limits::sizes),
 ];
 
 fn pick_scene(stage: &mut Stage) -> (&'static str, Scene) {

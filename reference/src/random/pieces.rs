@@ -1,19 +1,22 @@
-//! A scene of packets beside their stretches: under each policy, what protect encrypts is given once
-//! more piece by piece by the line `stretch`, with the session key and salt or with the header's.
+//! A scene of packets beside their stretches: under each policy and suite, what protect encrypts is
+//! given once more piece by piece by the line `stretch`, with the session key and salt or with the
+//! header's.
 
 use super::craft::{self, Draft};
 use super::dice::Dice;
 use super::ends::{self, Ends, Stream};
 use super::stage::Stage;
+use crate::aes::BLOCK;
 use crate::elements;
-use crate::keystream::{Keystream, SessionKeys};
+use crate::keystream::{Keystream, SALT};
+use crate::suite::Keys;
 
 /// Ids of both forms, some of them not in `craft`'s blocks.
 const LIST: [u8; 8] = [1, 3, 4, 14, 15, 16, 128, 255];
 
 struct Track {
     ends: Ends,
-    keys: SessionKeys,
+    keys: Keys,
     stream: Stream,
     /// Of the next packet.
     index: u64,
@@ -45,15 +48,17 @@ pub fn pieces(stage: &mut Stage) -> Option<()> {
 }
 
 fn open(stage: &mut Stage) -> Option<Track> {
-    let (key, salt) = ends::keys(&mut stage.dice);
-    let ends = Ends { sender: 0, receiver: 1, policy: stage.dice.below(4) };
+    let policy = stage.dice.below(4);
+    let suite = ends::suite(&mut stage.dice, &[policy]);
+    let (key, salt) = ends::keys(&mut stage.dice, suite);
+    let ends = Ends { sender: 0, receiver: 1, suite, policy };
     let (ssrc, rollover) = (stage.dice.number_32(), ends::rollover(&mut stage.dice));
     let first = ends::sequence(&mut stage.dice);
     for (session, way) in [(ends.sender, "s"), (ends.receiver, "r")] {
-        stage.make(session, (&key, &salt), ends.policy, &LIST)?;
+        stage.make(session, suite, (&key, &salt), policy, &LIST)?;
         stage.add(session, ssrc, way, rollover)?;
     }
-    let keys = SessionKeys::derive(&key.try_into().ok()?, &salt.try_into().ok()?);
+    let keys = Keys::derive(suite, &key, &salt).ok()?;
     let stream = Stream { ssrc, last: first.wrapping_sub(1), sent: Vec::new() };
     let index = u64::from(rollover) << 16 | u64::from(first);
     Some(Track { ends, keys, stream, index })
@@ -69,25 +74,40 @@ fn long_draft(dice: &mut Dice, track: &Track, sequence: u16) -> Draft {
 
 /// All that is encrypted of a packet, in its order.
 fn pieces_of(track: &Track, draft: &Draft) -> Vec<Piece> {
-    let (ssrc, index) = (draft.ssrc, u128::from(track.index));
-    let keystream = track.keys.packet_stream(ssrc, index);
+    let (keystream, begin) = packet_stream(track, draft.ssrc);
     let is_cryptex = track.ends.policy == 1 || track.ends.policy == 2;
     if is_cryptex && (draft.has_extension || draft.takes_added_block(track.ends.policy)) {
         // The extension header between the two uses up no keystream.
         let front = draft.contributors.clone();
         let back = [&draft.block[..], &draft.payload[..]].concat();
-        let start = front.len();
+        let start = begin + front.len();
         return vec![
-            Piece { keystream: keystream.clone(), start: 0, bytes: front },
+            Piece { keystream: keystream.clone(), start: begin, bytes: front },
             Piece { keystream, start, bytes: back },
         ];
     }
     let mut pieces = Vec::new();
-    if track.ends.policy == 3 {
-        pieces = masked_pieces(draft, track.keys.header_stream(ssrc, index));
+    if let (3, Keys::CounterMode(keys)) = (track.ends.policy, &track.keys) {
+        pieces = masked_pieces(draft, keys.header_stream(draft.ssrc, u128::from(track.index)));
     }
-    pieces.push(Piece { keystream, start: 0, bytes: draft.payload.clone() });
+    pieces.push(Piece { keystream, start: begin, bytes: draft.payload.clone() });
     pieces
+}
+
+/// The keystream that the line `stretch` has to be told of, and the byte of it at which a packet's
+/// begins. GCM's counter blocks are the IV and 32 bits from 2 on: the same as counter mode's with the
+/// IV and two zero bytes for salt, from block 2 on.
+fn packet_stream(track: &Track, ssrc: u32) -> (Keystream, usize) {
+    let index = u128::from(track.index);
+    match &track.keys {
+        Keys::CounterMode(keys) => (keys.packet_stream(ssrc, index), 0),
+        Keys::Gcm(keys) => {
+            let iv = keys.iv(ssrc, index);
+            let mut salt = [0; SALT];
+            salt[..iv.len()].copy_from_slice(&iv);
+            (Keystream { key: keys.key, salt, ssrc: 0, index: 0 }, 2 * BLOCK)
+        }
+    }
 }
 
 /// The data of listed elements, each at its own place of the second keystream.

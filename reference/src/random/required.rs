@@ -6,17 +6,29 @@ use super::craft::{self, Draft};
 use super::dice::Dice;
 use super::ends::{self, with_sequence, Ends, Stream};
 use super::stage::Stage;
+use crate::suite::Suite;
 
-/// Sessions 0 to 3 receive, each under the policy of its number.
+/// Sessions 0 to 3 receive, each under the policy of its number. With the second suite session 3 stays
+/// unmade.
 const REQUIRED: u64 = 2;
-/// Under policy 0 contributors stay in clear, and no block is added.
-const PLAIN: Ends = Ends { sender: 4, receiver: REQUIRED, policy: 0 };
-const HONEST: Ends = Ends { sender: 5, receiver: REQUIRED, policy: 2 };
+const HONEST_SENDER: u64 = 5;
 
 /// One stream, as each of its two senders has it.
 struct Track {
+    suite: Suite,
     plain: Stream,
     honest: Stream,
+}
+
+impl Track {
+    /// Under policy 0 contributors stay in clear, and no block is added.
+    fn plain_ends(&self) -> Ends {
+        Ends { sender: 4, receiver: REQUIRED, suite: self.suite, policy: 0 }
+    }
+
+    fn honest_ends(&self) -> Ends {
+        Ends { sender: HONEST_SENDER, receiver: REQUIRED, suite: self.suite, policy: 2 }
+    }
 }
 
 /// Each index is sent in clear first, and then properly.
@@ -35,41 +47,43 @@ pub fn required(stage: &mut Stage) -> Option<()> {
 }
 
 fn open(stage: &mut Stage) -> Option<Track> {
-    let (key, salt) = ends::keys(&mut stage.dice);
+    let suite = ends::suite(&mut stage.dice, &[]);
+    let (key, salt) = ends::keys(&mut stage.dice, suite);
     let set = ends::ids(&mut stage.dice);
     let (ssrc, rollover) = (stage.dice.number_32(), ends::rollover(&mut stage.dice));
     let first = ends::sequence(&mut stage.dice);
     for (session, policy, way) in
         [(0, 0, "r"), (1, 1, "r"), (2, 2, "r"), (3, 3, "r"), (4, 0, "s"), (5, 2, "s")]
     {
-        stage.make(session, (&key, &salt), policy, &set)?;
+        stage.make(session, suite, (&key, &salt), policy, &set)?;
         stage.add(session, ssrc, way, rollover)?;
     }
     let stream = || Stream { ssrc, last: first.wrapping_sub(1), sent: Vec::new() };
-    Some(Track { plain: stream(), honest: stream() })
+    Some(Track { suite, plain: stream(), honest: stream() })
 }
 
 /// The plain sender's packet arrives with other things wrong too, then sound, then at the other
 /// policies.
 fn in_clear(stage: &mut Stage, track: &mut Track, sequence: u16) -> Option<()> {
     let draft = plain_draft(&mut stage.dice, track.plain.ssrc, sequence);
-    let answer = PLAIN.send_draft(stage, &mut track.plain, draft)?;
+    let ends = track.plain_ends();
+    let answer = ends.send_draft(stage, &mut track.plain, draft)?;
     if answer.number != 0 {
         return Some(());
     }
     let wire = answer.packet();
     for _ in 0..stage.dice.below(4) {
-        let (n, buffer) = spoilt(&mut stage.dice, wire);
-        let session = stage.dice.pick(&[REQUIRED, REQUIRED, REQUIRED, 0, 1, 3, HONEST.sender]);
+        let (n, buffer) = spoilt(&mut stage.dice, track.suite.tag_length(), wire);
+        let session = stage.dice.pick(&[REQUIRED, REQUIRED, REQUIRED, 0, 1, 3, HONEST_SENDER]);
         stage.unprotect(session, n, &buffer)?;
     }
-    PLAIN.deliver(stage, wire)?;
+    ends.deliver(stage, wire)?;
     if stage.dice.one_in(3) {
         stage.state(REQUIRED)?;
     }
     for receiver in [0, 1, 3] {
         if stage.dice.one_in(2) {
-            Ends { receiver, ..PLAIN }.deliver(stage, wire)?;
+            Ends { receiver, ..track.plain_ends() }.deliver(stage, wire)?;
         }
     }
     Some(())
@@ -78,14 +92,15 @@ fn in_clear(stage: &mut Stage, track: &mut Track, sequence: u16) -> Option<()> {
 /// The honest sender's packet of the same index, which is still free where the one in clear was
 /// refused. Then any of those comes again: repeated or old, if nothing else is wrong with it.
 fn properly(stage: &mut Stage, track: &mut Track, sequence: u16) -> Option<()> {
-    let draft = craft::good(&mut stage.dice, track.honest.ssrc, sequence, HONEST.policy);
-    let answer = HONEST.send_draft(stage, &mut track.honest, draft)?;
+    let ends = track.honest_ends();
+    let draft = craft::good(&mut stage.dice, track.honest.ssrc, sequence, ends.policy);
+    let answer = ends.send_draft(stage, &mut track.honest, draft)?;
     if answer.number == 0 {
-        HONEST.deliver(stage, answer.packet())?;
+        ends.deliver(stage, answer.packet())?;
     }
     if stage.dice.one_in(2) && !track.plain.sent.is_empty() {
         let wire = stage.dice.pick(&track.plain.sent);
-        PLAIN.deliver(stage, &wire)?;
+        ends.deliver(stage, &wire)?;
     }
     Some(())
 }
@@ -108,23 +123,24 @@ fn plain_draft(dice: &mut Dice, ssrc: u32, sequence: u16) -> Draft {
 
 /// A told length and a buffer: the packet with one more thing wrong, so that the order of the
 /// refusals shows.
-fn spoilt(dice: &mut Dice, wire: &[u8]) -> (u64, Vec<u8>) {
+fn spoilt(dice: &mut Dice, tag_length: usize, wire: &[u8]) -> (u64, Vec<u8>) {
     if dice.one_in(3) {
-        return (wrong_length(dice, wire), wire.to_vec());
+        return (wrong_length(dice, tag_length, wire), wire.to_vec());
     }
-    let copy = wrong_bytes(dice, wire);
+    let copy = wrong_bytes(dice, tag_length, wire);
     (copy.len() as u64, copy)
 }
 
 /// LENGTH, SHORT, or around where the contributors end at the tag's start.
-fn wrong_length(dice: &mut Dice, wire: &[u8]) -> u64 {
-    let least = 22 + 4 * u64::from(wire[0] & 0x0f);
-    let short = dice.pick(&[0, 11, 12, 21]);
+fn wrong_length(dice: &mut Dice, tag_length: usize, wire: &[u8]) -> u64 {
+    let shortest = 12 + tag_length as u64;
+    let least = shortest + 4 * u64::from(wire[0] & 0x0f);
+    let short = dice.pick(&[0, 11, 12, shortest - 1]);
     dice.pick(&[wire.len() as u64 + 1, u64::MAX, short, least - 1, least - 1, least, least + 1])
 }
 
 /// VERSION, HEADER, LARGE, STREAM, another index, TAG.
-fn wrong_bytes(dice: &mut Dice, wire: &[u8]) -> Vec<u8> {
+fn wrong_bytes(dice: &mut Dice, tag_length: usize, wire: &[u8]) -> Vec<u8> {
     let mut copy = wire.to_vec();
     match dice.below(7) {
         0 => copy[0] ^= dice.pick(&[0x40, 0x80, 0xc0]),
@@ -132,7 +148,7 @@ fn wrong_bytes(dice: &mut Dice, wire: &[u8]) -> Vec<u8> {
         2 | 3 => copy.resize(dice.pick(&[2_048, 2_049, 2_050]), 0),
         4 => copy[8] ^= 1,
         5 => copy = with_sequence(&copy, dice.number_16()),
-        _ => craft::change_a_byte(dice, &mut copy[wire.len() - 10..]),
+        _ => craft::change_a_byte(dice, &mut copy[wire.len() - tag_length..]),
     }
     copy
 }

@@ -8,6 +8,7 @@ use super::stage::Stage;
 use crate::elements;
 use crate::header;
 use crate::hex;
+use crate::suite::Suite;
 
 /// Makings with keys and policies on both sides of their limits, then calls on what they gave.
 pub fn keys(stage: &mut Stage) -> Option<()> {
@@ -15,11 +16,13 @@ pub fn keys(stage: &mut Stage) -> Option<()> {
     for _ in 0..stage.dice.between(6, 14) {
         let session = stage.dice.below(8);
         let key = stage.dice.pick(&[16, 16, 16, 16, 15, 17, 0, 1, 32, 1_024]);
-        let salt = stage.dice.pick(&[14, 14, 14, 14, 13, 15, 0, 12, 1_024]);
+        let suite = stage.dice.pick(&[Suite::CounterMode, Suite::Gcm]);
+        let right = suite.salt_length();
+        let salt = stage.dice.pick(&[right, right, right, right, 11, 12, 13, 14, 15, 0, 1_024]);
         let policy = stage.dice.pick(&[0, 1, 2, 3, 3, 4, 5, 256, u64::MAX, 1 << 32]);
         let (key, salt) = (stage.dice.bytes(key), stage.dice.bytes(salt));
         let set = ends::ids(&mut stage.dice);
-        stage.make(session, (&key, &salt), policy, &set)?;
+        stage.make(session, suite, (&key, &salt), policy, &set)?;
         let way = stage.dice.pick(&["s", "r"]);
         let rollover = ends::rollover(&mut stage.dice);
         let any = stage.dice.below(8);
@@ -43,11 +46,12 @@ fn packet_call(stage: &mut Stage, session: u64, ssrc: u32) -> Option<()> {
         _ => noise(&mut stage.dice, ssrc),
     };
     let mut buffer = packet.clone();
-    let room = stage.dice.size(0, 16);
+    let room = stage.dice.size(0, 22);
     buffer.extend(stage.dice.bytes(room));
     let any = stage.dice.between(0, 30);
     let n = packet.len() as u64;
-    let n = stage.dice.pick(&[n, n, n, n, buffer.len() as u64, any, 11, 12, 21, 22, u64::MAX]);
+    let edge = stage.dice.pick(&[11, 12, 21, 22, 27, 28, 27, 28]);
+    let n = stage.dice.pick(&[n, n, n, n, buffer.len() as u64, any, edge, edge, u64::MAX]);
     if stage.dice.one_in(2) {
         stage.protect(session, n, &buffer)?;
     } else {
@@ -69,24 +73,25 @@ fn noise(dice: &mut Dice, ssrc: u32) -> Vec<u8> {
     bytes
 }
 
-/// Hostile packets to sessions of every policy that know the stream, one way each.
+/// Hostile packets to sessions of every policy and suite that know the stream, one way each.
 pub fn hostile(stage: &mut Stage) -> Option<()> {
-    let (key, salt) = ends::keys(&mut stage.dice);
     let set = ends::ids(&mut stage.dice);
     let ssrc = stage.dice.number_32();
-    // Session 4 stays unmade.
-    for session in 0..4 {
-        stage.make(session, (&key, &salt), session, &set)?;
+    // Session 4 stays unmade; 5 to 7 are of the second suite, which has policies 0 to 2.
+    for session in [0, 1, 2, 3, 5, 6, 7] {
+        let suite = if session < 4 { Suite::CounterMode } else { Suite::Gcm };
+        let (key, salt) = ends::keys(&mut stage.dice, suite);
+        stage.make(session, suite, (&key, &salt), session % 5, &set)?;
         let way = stage.dice.pick(&["s", "s", "r"]);
         stage.add(session, ssrc, way, 0)?;
     }
     for _ in 0..stage.dice.between(15, 40) {
-        let session = stage.dice.pick(&[0, 1, 2, 3, 1, 2, 3, 3, 3, 4]);
+        let session = stage.dice.pick(&[0, 1, 2, 3, 1, 2, 3, 3, 3, 4, 5, 6, 7]);
         let other = stage.dice.number_32();
         let ssrc = stage.dice.pick(&[ssrc, ssrc, ssrc, ssrc, ssrc, other]);
         packet_call(stage, session, ssrc)?;
     }
-    for session in 0..5 {
+    for session in 0..8 {
         stage.state(session)?;
     }
     Some(())

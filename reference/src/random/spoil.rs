@@ -5,7 +5,7 @@ use super::dice::Dice;
 use crate::hex;
 
 /// Short lines, each with one thing wrong.
-const WRONG: [&str; 50] = [
+const WRONG: [&str; 64] = [
     "frotz 0",
     "State 0",
     "state",
@@ -25,6 +25,20 @@ const WRONG: [&str; 50] = [
     "make 0 - 0F 0 -",
     "make 0 - - 0 0",
     "make 0 - - 0 1,2",
+    "make 0 - - 0 - GCM",
+    "make 0 - - 0 - Gcm",
+    "make 0 - - 0 - gc",
+    "make 0 - - 0 - gcm0",
+    "make 0 - - 0 - ctr",
+    "make 0 - - 0 - 1",
+    "make 0 - - 0 - gcm gcm",
+    "make 0 - - 0 - - gcm",
+    "make 0 - - 0 - gcm -",
+    "make 0 - - 0 gcm",
+    "make gcm 0 - - 0 -",
+    "make 8 - - 0 - gcm",
+    "make 0 - - 18446744073709551616 - gcm",
+    "make 0 - - 0 0 gcm",
     "add 0 0000000 s 0",
     "add 0 000000000 s 0",
     "add 0 0000000G s 0",
@@ -76,6 +90,8 @@ pub fn spoiled(dice: &mut Dice, line: &str) -> Vec<u8> {
 }
 
 fn without_last_word(line: &str) -> Vec<u8> {
+    // Without its suite alone a making can be read.
+    let line = line.strip_suffix(" gcm").unwrap_or(line);
     let end = line.rfind(' ').unwrap_or(0);
     // An empty line would be one that can be read.
     if end == 0 {
@@ -95,15 +111,16 @@ fn with_byte(dice: &mut Dice, line: &str, byte: u8) -> Vec<u8> {
 /// One byte over a limit.
 fn too_long(dice: &mut Dice) -> Vec<u8> {
     let (buffer, key) = ("ab".repeat(4_097), "ab".repeat(1_025));
+    let last = dice.pick(&["", " gcm"]);
     let line = match dice.below(9) {
         0 => format!("protect 0 12 {buffer}"),
         1 => format!("unprotect 0 22 {buffer}"),
         2 => format!("find 1 {buffer}"),
         3 => format!("mask bede {buffer} -"),
         4 => format!("mask bede - {key}"),
-        5 => format!("make 0 {key} - 0 -"),
-        6 => format!("make 0 - - 0 {key}"),
-        7 => format!("make 0 - {key} 0 -"),
+        5 => format!("make 0 {key} - 0 -{last}"),
+        6 => format!("make 0 - - 0 {key}{last}"),
+        7 => format!("make 0 - {key} 0 -{last}"),
         _ => format!("state {}", "0".repeat(20_001 - 6)),
     };
     line.into_bytes()

@@ -5,6 +5,7 @@ use super::spoil;
 use crate::hex;
 use crate::keystream::Keystream;
 use crate::script::Desk;
+use crate::suite::Suite;
 use std::io::{self, Write};
 
 /// What a call answered. The length is a packet call's, the buffer a packet call's or the data of a
@@ -126,13 +127,18 @@ impl<'a> Stage<'a> {
     pub fn make(
         &mut self,
         session: u64,
+        suite: Suite,
         (key, salt): (&[u8], &[u8]),
         policy: u64,
         ids: &[u8],
     ) -> Option<Answer> {
         let (key, salt, ids) = (hex::write(key), hex::write(salt), hex::write(ids));
         let policy = self.decimal(policy);
-        self.call(format!("make {session} {key} {salt} {policy} {ids}"))
+        let last = match suite {
+            Suite::CounterMode => "",
+            Suite::Gcm => " gcm",
+        };
+        self.call(format!("make {session} {key} {salt} {policy} {ids}{last}"))
     }
 
     pub fn add(&mut self, session: u64, ssrc: u32, way: &str, rollover: u32) -> Option<Answer> {

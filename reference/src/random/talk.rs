@@ -48,7 +48,7 @@ fn talk_once(stage: &mut Stage, ends: &Ends, stream: &mut Stream) -> Option<()> 
         ends.deliver(stage, &wire)?;
     } else if chance < 19 {
         let wire = recent(stage, stream);
-        let wire = damaged(&mut stage.dice, &wire);
+        let wire = damaged(&mut stage.dice, ends.suite, &wire);
         ends.deliver(stage, &wire)?;
     } else {
         rare_once(stage, ends, stream)?;
@@ -82,7 +82,7 @@ fn rare_once(stage: &mut Stage, ends: &Ends, stream: &mut Stream) -> Option<()> 
         // Any byte string of the stream, read for an element or told a wrong length.
         4 => stage.find(1, &wire)?,
         5 => {
-            let n = stage.dice.pick(&[n - 1, n + 1, 0, 21, 22, u64::MAX]);
+            let n = stage.dice.pick(&[n - 1, n + 1, 0, 21, 22, 27, 28, u64::MAX]);
             stage.unprotect(ends.receiver, n, &wire)?
         }
         _ => stage.state(ends.receiver)?,
@@ -201,26 +201,30 @@ pub fn last(stage: &mut Stage) -> Option<()> {
             ends.deliver(stage, &wire)?;
         }
         // A forger reaches for indices past the ends and at the ties.
+        let end = stage.dice.pick(&[1, 32_767]);
         let away = stage.dice.pick(&[1, 2, 63, 64, 32_767, 32_768, 32_769, 65_472, 65_473, 65_535]);
+        let away = stage.dice.pick(&[end, away, away]);
         let forged = with_sequence(&wire, stream.last.wrapping_add(away));
         ends.deliver(stage, &forged)?;
     }
     ends.states(stage)
 }
 
-/// A plain sender's hostile but rightly tagged packets arrive in sessions of all four policies.
+/// A plain sender's hostile but rightly tagged packets arrive in sessions of all four policies. With
+/// the second suite there is none of policy 3, and that session stays unmade.
 pub fn cross(stage: &mut Stage) -> Option<()> {
-    let (key, salt) = ends::keys(&mut stage.dice);
+    let policy = stage.dice.pick(&[0, 0, 0, 1, 3]);
+    let suite = ends::suite(&mut stage.dice, &[policy]);
+    let (key, salt) = ends::keys(&mut stage.dice, suite);
     let set = ends::ids(&mut stage.dice);
     let ssrc = stage.dice.number_32();
-    let policy = stage.dice.pick(&[0, 0, 0, 1, 3]);
-    stage.make(7, (&key, &salt), policy, &set)?;
+    stage.make(7, suite, (&key, &salt), policy, &set)?;
     stage.add(7, ssrc, "s", 0)?;
     for session in 0..4 {
-        stage.make(session, (&key, &salt), session, &set)?;
+        stage.make(session, suite, (&key, &salt), session, &set)?;
         stage.add(session, ssrc, "r", 0)?;
     }
-    let sender = Ends { sender: 7, receiver: 0, policy };
+    let sender = Ends { sender: 7, receiver: 0, suite, policy };
     let mut stream = Stream { ssrc, last: stage.dice.number_16(), sent: Vec::new() };
     for _ in 0..stage.dice.between(5, 14) {
         let mut draft = craft::hostile(&mut stage.dice, ssrc, stream.last.wrapping_add(1));
@@ -228,7 +232,7 @@ pub fn cross(stage: &mut Stage) -> Option<()> {
         let answer = sender.send_draft(stage, &mut stream, draft)?;
         if answer.number == 0 {
             for receiver in 0..4 {
-                Ends { sender: 7, receiver, policy }.deliver(stage, answer.packet())?;
+                Ends { receiver, ..sender }.deliver(stage, answer.packet())?;
             }
         }
     }

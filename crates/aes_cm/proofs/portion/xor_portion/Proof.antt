@@ -1,4 +1,8 @@
 -- `aes_cm::portion::xor_portion` meets its contract: the portion by the blocks of its key and its first counter block.
+use mathlib.Core.Path.{refl, ap, _∙_}
+use Prim.Native.Nat.{_+_}
+use native.Mathlib.Nat.{zero-add}
+use native.Mathlib.Omega.{arith}
 use borrow.Author.Needs.{needs}
 use Rattle.aes.specs.Blocks.{byteFrom, Lent}
 use Rattle.aes.proofs.Borders.{lent, lent-start}
@@ -21,12 +25,13 @@ round-keys-requires c κs = search needs
 packet-start-requires : tie.Need-packet-start-requires
 packet-start-requires c κs = lends (c .before)
 
-portion-by-requires : tie.Need-portion-by-requires
-portion-by-requires c κs =
+xor-from-requires : tie.Need-xor-from-requires
+xor-from-requires c κs =
     let g = c .before .before in
     let k = g .before .before in
     let e = g .packet-start .ensures .0 in
-    (lent-start _ _ _ _ (g .packet-start .result) (e .0) (lends k), (e .1, entry k .pre .1))
+    let p = entry k .pre .1 in
+    (lent-start _ _ _ _ (g .packet-start .result) (e .0) (lends k), (e .1, (refl, (p .0, (p .1 .0, (p .1 .1 .0, omega (arith, p .1 .1 .1)))))))
 
 same-length : tie.Need-same-length
 same-length c = search needs
@@ -39,8 +44,9 @@ returns c =
     let a = s .args in
     let p = s .pre .1 in
     let start = g .packet-start .result in
-    portion-is (byteFrom (start .key) (start .block)) (keystreamOf (a .key) (a .salt) (a .ssrc) (a .index)) (g .packet-start .ensures .1)
-    (a .first) (a .stop) (a .rest) (a .buf .now) (b .portion-by .last .1 .1 .1 .1 .0) (p .0) (p .1 .0) (p .1 .1 .1) (b .portion-by .ensures)
+    let made = byteFrom (start .key) (start .block) in
+    portion-is (λ k. made (0 + k)) (keystreamOf (a .key) (a .salt) (a .ssrc) (a .index)) (a .first) (a .stop) (a .rest) (a .buf .now) (b .xor-from .last .1 .1 .1 .1 .1 .0) (p .0) (p .1 .0)
+    (λ k h. ap made (zero-add k) ∙ g .packet-start .ensures .1 k (omega (arith, h, p .1 .1 .1))) (b .xor-from .ensures)
 
 pub xor-portion-spec : {M : Type 1} → statement M
 xor-portion-spec =
@@ -48,6 +54,6 @@ xor-portion-spec =
     (tie.spec
     round-keys-requires
     packet-start-requires
-    portion-by-requires
+    xor-from-requires
     same-length
     returns)

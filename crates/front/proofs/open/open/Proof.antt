@@ -1,5 +1,7 @@
 -- `front::open::open` meets its contract.
 use Rattle.front.proofs.Opens.{judged-long, open-memory, open-length, open-unread, open-judged, open-room, open-stream, open-ready}
+use mathlib.Core.Path.{ap, _∙_}
+use Rattle.suites.specs.Suites.{tagLengthOf}
 use borrow.Author.Needs.{needs}
 use Rattle.front.proofs.open.open.Statement.{statement}
 use Rattle.front.proofs.open.open.Tie as tie
@@ -27,11 +29,17 @@ returns-2 c =
     let v = s .args .way in
     rw (c .refuse .ensures) (open-length v w b n (t .if1 .left) (c .before .if2 .taken), tt)
 
-shared-slice-read-load-policy : tie.Need-shared-slice-read-load-policy
-shared-slice-read-load-policy c = search needs
+shared-slice-read-first : tie.Need-shared-slice-read-first
+shared-slice-read-first c = search needs
 
 load-policy-requires : tie.Need-load-policy-requires
 load-policy-requires c κs = search needs
+
+load-suite-requires : tie.Need-load-suite-requires
+load-suite-requires c κs = search needs
+
+tag-length-requires : tie.Need-tag-length-requires
+tag-length-requires c κs = search needs
 
 sub-judge : tie.Need-sub-judge
 sub-judge c = search needs
@@ -58,7 +66,9 @@ returns-3 : tie.Need-returns-3
 returns-3 c =
     let e = c .before in
     let q = e .before .before in
-    let p = q .before .before in
+    let k = q .before .before in
+    let u = k .before in
+    let p = u .before in
     let i = p .before .before in
     let t = i .before in
     let s = t .before .before .before in
@@ -66,7 +76,7 @@ returns-3 c =
     let b = s .args .buf .now in
     let n = s .args .n in
     let v = s .args .way in
-    rw (c .not-read .ensures, e .enum-told .given .1) (open-unread v w b n (t .if1 .left) (i .if2 .left) _ (p .load-policy .ensures) _ (q .judge .ensures) _ (e .enum-told .given .1), tt)
+    rw (c .not-read .ensures, e .enum-told .given .1) (open-unread v w b n (t .if1 .left) (i .if2 .left) _ (p .load-policy .ensures) _ (k .tag-length .ensures .0 ∙ ap tagLengthOf (u .load-suite .ensures)) _ (q .judge .ensures) _ (e .enum-told .given .1), tt)
 
 sub-if3 : tie.Need-sub-if3
 sub-if3 c = search needs
@@ -83,7 +93,9 @@ returns-4 c =
     let a = f .before in
     let h = a .before .before in
     let q = h .before .before in
-    let p = q .before .before in
+    let k = q .before .before in
+    let u = k .before in
+    let p = u .before in
     let i = p .before .before in
     let t = i .before in
     let s = t .before .before .before in
@@ -91,7 +103,7 @@ returns-4 c =
     let b = s .args .buf .now in
     let n = s .args .n in
     let v = s .args .way in
-    rw (c .refuse2 .ensures) (open-room v w b n (t .if1 .left) (i .if2 .left) _ (p .load-policy .ensures) _ (q .judge .ensures) (h .header .given .0 .0) (h .header .given .1) _ (a .added .ensures .0) (f .if3 .taken), tt)
+    rw (c .refuse2 .ensures) (open-room v w b n (t .if1 .left) (i .if2 .left) _ (p .load-policy .ensures) _ (k .tag-length .ensures .0 ∙ ap tagLengthOf (u .load-suite .ensures)) _ (q .judge .ensures) (h .header .given .0 .0) (h .header .given .1) _ (a .added .ensures .0) (f .if3 .taken), tt)
 
 sub-in-stream : tie.Need-sub-in-stream
 sub-in-stream c = search needs
@@ -108,7 +120,9 @@ in-stream-requires c κs =
     let a = f .before in
     let h = a .before .before in
     let q = h .before .before in
-    let p = q .before .before in
+    let k = q .before .before in
+    let u = k .before in
+    let p = u .before in
     let i = p .before .before in
     let t = i .before in
     let s = t .before .before .before in
@@ -117,7 +131,7 @@ in-stream-requires c κs =
     let n = s .args .n in
     let v = s .args .way in (
       t .if1 .left,
-      judged-long v _ b n (h .header .given .0 .0) (i .if2 .left) (open-judged v w b n (t .if1 .left) (i .if2 .left) _ (p .load-policy .ensures) _ (q .judge .ensures) (h .header .given .0 .0) (h .header .given .1) _ (a .added .ensures .0)),
+      judged-long v _ _ b n (h .header .given .0 .0) (i .if2 .left) (open-judged v w b n (t .if1 .left) (i .if2 .left) _ (p .load-policy .ensures) _ (k .tag-length .ensures .0 ∙ ap tagLengthOf (u .load-suite .ensures)) _ (q .judge .ensures) (h .header .given .0 .0) (h .header .given .1) _ (a .added .ensures .0)),
     )
 
 returns-5 : tie.Need-returns-5
@@ -126,7 +140,9 @@ returns-5 c =
     let a = f .before in
     let h = a .before .before in
     let q = h .before .before in
-    let p = q .before .before in
+    let k = q .before .before in
+    let u = k .before in
+    let p = u .before in
     let i = p .before .before in
     let t = i .before in
     let s = t .before .before .before in
@@ -134,7 +150,7 @@ returns-5 c =
     let b = s .args .buf .now in
     let n = s .args .n in
     let v = s .args .way in
-    (open-stream v w b n (t .if1 .left) (i .if2 .left) _ (p .load-policy .ensures) _ (q .judge .ensures) (h .header .given .0 .0) (h .header .given .1) _ (a .added .ensures .0) (f .if3 .left) _ (c .in-stream .ensures .0), open-ready v w b n (t .if1 .left) (i .if2 .left) _ (p .load-policy .ensures) _ (q .judge .ensures) (h .header .given .0 .0) (h .header .given .1) _ (a .added .ensures .0) (f .if3 .left) _ (c .in-stream .ensures .0) (c .in-stream .ensures .1))
+    (open-stream v w b n (t .if1 .left) (i .if2 .left) _ (p .load-policy .ensures) _ (k .tag-length .ensures .0 ∙ ap tagLengthOf (u .load-suite .ensures)) _ (q .judge .ensures) (h .header .given .0 .0) (h .header .given .1) _ (a .added .ensures .0) (f .if3 .left) _ (c .in-stream .ensures .0), open-ready v w b n (t .if1 .left) (i .if2 .left) _ (p .load-policy .ensures) _ (k .tag-length .ensures .0 ∙ ap tagLengthOf (u .load-suite .ensures)) _ (q .judge .ensures) (h .header .given .0 .0) (h .header .given .1) _ (a .added .ensures .0) (f .if3 .left) _ (c .in-stream .ensures .0) (c .in-stream .ensures .1))
 
 pub open-spec : {M : Type 1} → statement M
 open-spec =
@@ -143,8 +159,10 @@ open-spec =
     returns
     refuse-requires
     returns-2
-    shared-slice-read-load-policy
+    shared-slice-read-first
     load-policy-requires
+    load-suite-requires
+    tag-length-requires
     sub-judge
     part-judge-start
     part-judge-end

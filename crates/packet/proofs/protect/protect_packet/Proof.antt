@@ -1,30 +1,39 @@
 -- `packet::protect::protect_packet` meets its contract.
+use mathlib.Core.Path.{_≡_, ap}
+use Prim.Native.Nat.{ℕ, _+_}
 use native.Mathlib.Omega.{arith}
 use Rattle.rtp_elements.specs.Mask.{listedIn}
-use Rattle.packet.proofs.Sending.{body-small, sent}
+use Rattle.packet.proofs.Sending.{part-front, sent}
 use borrow.Author.Needs.{needs}
 use Rattle.packet.proofs.protect.protect_packet.Statement.{statement}
 use Rattle.packet.proofs.protect.protect_packet.Tie as tie
 
-encrypt-packet-requires : tie.Need-encrypt-packet-requires
-encrypt-packet-requires c κs = search needs
+to-wire-requires : tie.Need-to-wire-requires
+to-wire-requires c κs = search needs
 
-sub-code : tie.Need-sub-code
-sub-code c = search needs
+sub-seal : tie.Need-sub-seal
+sub-seal c = search needs
 
-part-code-start : tie.Need-part-code-start
-part-code-start c = search needs
+part-seal-start : tie.Need-part-seal-start
+part-seal-start c = search needs
 
-part-code-end : tie.Need-part-code-end
-part-code-end c = search needs
+part-seal-end : tie.Need-part-seal-end
+part-seal-end c = search needs
 
-code-requires : tie.Need-code-requires
-code-requires c κs =
-    let s = c .before .before .before .before .before .before .before .before in
-    (s .pre .0 .0, body-small (s .args .policy) (s .args .buf .now) (s .args .n) (s .args .h) (s .pre .0 .1 .0) (s .pre .0 .1 .1) (s .args .keys) (listedIn (s .args .ids .now)) (s .args .ssrc) (s .args .index) _ (c .before .before .before .before .before .encrypt-packet .ensures .0) _ (c .before .before .before .before .before .encrypt-packet .ensures .1))
+seal-requires : tie.Need-seal-requires
+seal-requires c κs =
+    let t = c .before .before .before .before in
+    let s = t .before .before .before in
+    let a = s .args in
+    let w = t .to-wire .ensures .1 .1 in
+    let f = part-front (a .suite) (a .keys) (a .policy) (listedIn (a .ids .now)) (a .ssrc) (a .index) (a .buf .now) (a .n) _ (w .long) _ (t .to-wire .ensures .1 .0) in
+    (s .pre .0 .0, rw (f, w .long) w)
 
-add-put-tag : tie.Need-add-put-tag
-add-put-tag c = search needs
+tag-length-requires : tie.Need-tag-length-requires
+tag-length-requires c κs = search needs
+
+add-end : tie.Need-add-end
+add-end c = search needs
 
 sub-put-tag : tie.Need-sub-put-tag
 sub-put-tag c = search needs
@@ -38,32 +47,37 @@ part-put-tag-end c = search needs
 put-tag-requires : tie.Need-put-tag-requires
 put-tag-requires c κs = search needs
 
-add-result : tie.Need-add-result
-add-result c = search needs
-
 same-length : tie.Need-same-length
 same-length c = search needs
 
 returns : tie.Need-returns
 returns c =
-    let s = c .before .before .before .before .before .before .before .before .before .before .before .before .before in
-    let e = c .before .before .before .before .before .before .before .before .before .before .encrypt-packet .ensures in
-    (omega (arith, e .0), sent (s .args .policy) (s .args .buf .now) (s .args .n) (s .args .h) (s .pre .0 .1 .0) (s .pre .0 .1 .1) (s .args .keys) (listedIn (s .args .ids .now)) (s .args .ssrc) (s .args .index) _ (e .0) _ (e .1) _ _ (c .before .before .before .before .code .ensures) (c .before .before .put-tag .ensures))
+    let p = c .before .before in
+    let k = p .before .before in
+    let e = k .before .before .before in
+    let t = e .before .before .before .before .before in
+    let s = t .before .before .before in
+    let a = s .args in
+    let m = t .to-wire .result .length in (
+      omega (arith, t .to-wire .ensures .0, k .tag-length .ensures .0),
+      sent (a .suite) (a .keys) (a .policy) (listedIn (a .ids .now)) (a .ssrc) (a .index) (a .buf .now) (a .n) m (t .to-wire .ensures .1 .1 .long) _ (t .to-wire .ensures .1 .0) _ (e .seal .ensures .0) (m + k .tag-length .result) (ap (λ (x : ℕ). m + x) (k .tag-length .ensures .0))
+          (omega (arith, t .to-wire .ensures .0, k .tag-length .ensures .0, s .pre .1)) _ _ (e .seal .ensures .1) (p .put-tag .ensures),
+    )
 
 pub protect-packet-spec : {M : Type 1} → statement M
 protect-packet-spec =
     tie.close
     (tie.spec
-    encrypt-packet-requires
-    sub-code
-    part-code-start
-    part-code-end
-    code-requires
-    add-put-tag
+    to-wire-requires
+    sub-seal
+    part-seal-start
+    part-seal-end
+    seal-requires
+    tag-length-requires
+    add-end
     sub-put-tag
     part-put-tag-start
     part-put-tag-end
     put-tag-requires
-    add-result
     same-length
     returns)

@@ -1,109 +1,71 @@
 -- `packet::protect::unprotect_packet` meets its contract.
-use mathlib.Core.Path.{_≡_, refl, sym, _∙_}
-use Prim.Native.Nat.{_-_}
+use mathlib.Core.Path.{sym, _∙_}
 use native.Mathlib.Omega.{arith}
 use borrow.Author.Tests.{not-true, not-false}
 use Rattle.rtp_elements.specs.Mask.{listedIn}
-use Rattle.packet.proofs.Arriving.{long, read, fits, small, elements, tag-fits, restored}
+use Rattle.packet.proofs.Arriving.{tagged-long, plain-read, plain-fits, restored}
 use borrow.Author.Needs.{needs}
 use Rattle.packet.proofs.protect.unprotect_packet.Statement.{statement}
 use Rattle.packet.proofs.protect.unprotect_packet.Tie as tie
 
-sub-m : tie.Need-sub-m
-sub-m c = let s = c .before in omega (arith, long (s .args .policy) 10 (s .args .buf .now) (s .args .n) (s .args .h) (s .pre .1 .0) (s .pre .1 .1))
-
-sub-code : tie.Need-sub-code
-sub-code c = search needs
-
-part-code-start : tie.Need-part-code-start
-part-code-start c = search needs
-
-part-code-end : tie.Need-part-code-end
-part-code-end c = search needs
-
-code-requires : tie.Need-code-requires
-code-requires c κs =
-    let s = c .before .before .before .before in
-    let z : s .args .n - 10 - 0 ≡ s .args .n - 10 = omega arith in
-    (s .pre .0, rw z (small (s .args .policy) 10 (s .args .buf .now) (s .args .n) (s .args .h) (s .pre .1 .0) (s .pre .1 .1)))
-
-sub-same : tie.Need-sub-same
-sub-same c = search needs
-
-part-same-start : tie.Need-part-same-start
-part-same-start c = search needs
-
-part-same-end : tie.Need-part-same-end
-part-same-end c = search needs
-
-sub-same-2 : tie.Need-sub-same-2
-sub-same-2 c = search needs
-
-part-same-start-2 : tie.Need-part-same-start-2
-part-same-start-2 c = search needs
-
-part-same-end-2 : tie.Need-part-same-end-2
-part-same-end-2 c = search needs
-
-same-requires : tie.Need-same-requires
-same-requires c κs = search needs
+open-requires : tie.Need-open-requires
+open-requires c κs = search needs
 
 same-length : tie.Need-same-length
 same-length c = search needs
 
 returns : tie.Need-returns
 returns c =
-    let s = c .before .before .before .before .before .before .before .before .before .before .before in
-    let f = tag-fits (s .args .policy) 10 (s .args .buf .now) (s .args .n) (s .args .h) (s .pre .1 .0) (s .pre .1 .1) (s .args .keys) (s .args .index) _ (c .before .before .before .before .before .before .code .ensures) in
-    (sym (not-true _ (c .if1 .taken)) ∙ c .before .same .ensures ∙ f, refl)
+    let o = c .before .before .before in
+    let f = not-true _ (c .if1 .taken) in
+    (sym f ∙ o .«open» .ensures .0, rw f at (o .«open» .ensures .1))
 
-sub-decrypt : tie.Need-sub-decrypt
-sub-decrypt c = search needs
+tag-length-requires : tie.Need-tag-length-requires
+tag-length-requires c κs = search needs
 
-part-decrypt-start : tie.Need-part-decrypt-start
-part-decrypt-start c = search needs
+sub-m : tie.Need-sub-m
+sub-m c = let s = c .before .before .before .before .before .before .before in omega (arith, c .tag-length .ensures .0, tagged-long (s .args .suite) (s .args .keys) (s .args .policy) (listedIn (s .args .ids .now)) (s .args .ssrc) (s .args .index) (s .args .buf .now) (s .args .n) (s .args .h) (s .pre .1 .0) (s .pre .1 .1))
 
-part-decrypt-end : tie.Need-part-decrypt-end
-part-decrypt-end c = search needs
+sub-from-wire : tie.Need-sub-from-wire
+sub-from-wire c = search needs
 
-decrypt-requires : tie.Need-decrypt-requires
-decrypt-requires c κs =
-    let s = c .before .before .before .before .before .before .before .before .before .before .before .before in
-    let z : s .args .n - 10 - 0 ≡ s .args .n - 10 = omega arith in
-    ((rw z (read (s .args .policy) 10 (s .args .buf .now) (s .args .n) (s .args .h) (s .pre .1 .0) (s .pre .1 .1)), (rw z (fits (s .args .policy) 10 (s .args .buf .now) (s .args .n) (s .args .h) (s .pre .1 .0) (s .pre .1 .1)), rw z (small (s .args .policy) 10 (s .args .buf .now) (s .args .n) (s .args .h) (s .pre .1 .0) (s .pre .1 .1)))), rw z (elements (s .args .policy) 10 (s .args .buf .now) (s .args .n) (s .args .h) (s .pre .1 .0) (s .pre .1 .1)))
+part-from-wire-start : tie.Need-part-from-wire-start
+part-from-wire-start c = search needs
+
+part-from-wire-end : tie.Need-part-from-wire-end
+part-from-wire-end c = search needs
+
+from-wire-requires : tie.Need-from-wire-requires
+from-wire-requires c κs =
+    let s = c .before .before .before .before .before .before .before .before in
+    let o = c .before .before .before .before .before in
+    let e = rw (not-false (o .«open» .result) (c .before .before .if1 .left)) at (o .«open» .ensures .1) in
+    rw (c .before .tag-length .ensures .0) (plain-read (s .args .suite) (s .args .keys) (s .args .policy) (listedIn (s .args .ids .now)) (s .args .ssrc) (s .args .index) (s .args .buf .now) (s .args .n) (s .args .h) (s .pre .1 .0) (s .pre .1 .1) _ e, plain-fits (s .args .suite) (s .args .keys) (s .args .policy) (listedIn (s .args .ids .now)) (s .args .ssrc) (s .args .index) (s .args .buf .now) (s .args .n) (s .args .h) (s .pre .1 .0) (s .pre .1 .1) _ e)
 
 same-length-2 : tie.Need-same-length-2
 same-length-2 c = search needs
 
 returns-2 : tie.Need-returns-2
 returns-2 c =
-    let s = c .before .before .before .before .before .before .before .before .before .before .before .before .before .before .before in
-    let f = tag-fits (s .args .policy) 10 (s .args .buf .now) (s .args .n) (s .args .h) (s .pre .1 .0) (s .pre .1 .1) (s .args .keys) (s .args .index) _ (c .before .before .before .before .before .before .before .before .before .before .code .ensures) in (
-      sym (not-false _ (c .before .before .before .before .if1 .left)) ∙ c .before .before .before .before .before .same .ensures ∙ f,
-      restored (s .args .policy) 10 (s .args .buf .now) (s .args .n) (s .args .h) (s .pre .1 .0) (s .pre .1 .1) (s .args .keys) (listedIn (s .args .ids .now)) (s .args .ssrc) (s .args .index) _ (c .before .before .decrypt .ensures),
-    )
+    let s = c .before .before .before .before .before .before .before .before .before .before .before in
+    let o = c .before .before .before .before .before .before .before .before in
+    let k = c .before .before .before .before in
+    let f = not-false (o .«open» .result) (c .before .before .before .before .before .if1 .left) in
+    let e = rw f at (o .«open» .ensures .1) in
+    (sym f ∙ o .«open» .ensures .0, rw (k .tag-length .ensures .0) (restored (s .args .suite) (s .args .keys) (s .args .policy) (listedIn (s .args .ids .now)) (s .args .ssrc) (s .args .index) (s .args .buf .now) (s .args .n) (s .args .h) (s .pre .1 .0) (s .pre .1 .1) _ e _ (rw (k .tag-length .ensures .0) at (c .before .before .from-wire .ensures))))
 
 pub unprotect-packet-spec : {M : Type 1} → statement M
 unprotect-packet-spec =
     tie.close
     (tie.spec
-    sub-m
-    sub-code
-    part-code-start
-    part-code-end
-    code-requires
-    sub-same
-    part-same-start
-    part-same-end
-    sub-same-2
-    part-same-start-2
-    part-same-end-2
-    same-requires
+    open-requires
     same-length
     returns
-    sub-decrypt
-    part-decrypt-start
-    part-decrypt-end
-    decrypt-requires
+    tag-length-requires
+    sub-m
+    sub-from-wire
+    part-from-wire-start
+    part-from-wire-end
+    from-wire-requires
     same-length-2
     returns-2)

@@ -7,6 +7,7 @@ use native.Mathlib.Omega.{arith}
 use borrow.Author.Needs.{needs}
 use Rattle.bits.specs.Xor.{xorPad}
 use Rattle.rtp_elements.specs.Mask.{listedIn}
+use Rattle.suites.specs.declared.suite.Suite.the-variants.{CmHmac}
 use Rattle.policies.specs.Policies.{usesMask}
 use Rattle.packet_cipher.specs.Cipher.{portionOf, portionPadOf, streamOf, headerStreamOf}
 use Rattle.packet_cipher.proofs.Passes.{sound-read, whole-block, portion-order, whole-stays, size-stays, payload-only, crypted-plain, crypted-masked, under-mask}
@@ -17,10 +18,10 @@ abbrev entry : tie.After-xor-portion → tie.Start
 entry x = x .before .before .before .before .before .before .before .before .before .before .before
 
 abbrev stream : tie.Start → ℕ → ℕ
-stream s = streamOf (s .args .keys) (s .args .ssrc) (s .args .index)
+stream s = streamOf CmHmac (s .args .keys) (s .args .ssrc) (s .args .index)
 
 abbrev header-stream : tie.Start → ℕ → ℕ
-header-stream s = headerStreamOf (s .args .keys) (s .args .ssrc) (s .args .index)
+header-stream s = headerStreamOf CmHmac (s .args .keys) (s .args .ssrc) (s .args .index)
 
 -- the packet after its own keystream
 abbrev passed : tie.After-xor-portion → List ℕ

@@ -70,11 +70,26 @@ five-at-requires c κs = search needs
 five-at-requires-2 : tie.Need-five-at-requires-2
 five-at-requires-2 c κs = search needs
 
+shared-slice-read-bytes16-5 : tie.Need-shared-slice-read-bytes16-5
+shared-slice-read-bytes16-5 c = search needs
+
+add-bytes16-3 : tie.Need-add-bytes16-3
+add-bytes16-3 c = search needs
+
+mul-bytes16-3 : tie.Need-mul-bytes16-3
+mul-bytes16-3 c = search needs
+
+shared-slice-read-bytes16-6 : tie.Need-shared-slice-read-bytes16-6
+shared-slice-read-bytes16-6 c = search needs
+
+bytes16-requires-3 : tie.Need-bytes16-requires-3
+bytes16-requires-3 c κs = search needs
+
 returns : tie.Need-returns
 returns c =
-    let s = c .before .before .before .before .before .before .before .before .before .before .before .before .before .before .before in
-    keys-read (s .args .session .now) (c .before .before .before .before .before .before .before .before .before .before .before .bytes16 .ensures) (c .before .before .before .before .before .before .before .before .bytes14 .ensures) (c .before .before .before .before .before .bytes162 .ensures)
-    (c .before .before .bytes142 .ensures) (c .before .five-at .ensures) (c .five-at2 .ensures)
+    let s = c .before .before .before .before .before .before .before .before .before .before .before .before .before .before .before .before .before .before in
+    keys-read (s .args .session .now) (c .before .before .before .before .before .before .before .before .before .before .before .before .before .before .bytes16 .ensures) (c .before .before .before .before .before .before .before .before .before .before .before .bytes14 .ensures) (c .before .before .before .before .before .before .before .before .bytes162 .ensures)
+    (c .before .before .before .before .before .bytes142 .ensures) (c .before .before .before .before .five-at .ensures) (c .before .before .before .five-at2 .ensures) (c .bytes163 .ensures)
 
 pub keys-of-spec : {M : Type 1} → statement M
 keys-of-spec =
@@ -102,4 +117,9 @@ keys-of-spec =
     bytes14-requires-2
     five-at-requires
     five-at-requires-2
+    shared-slice-read-bytes16-5
+    add-bytes16-3
+    mul-bytes16-3
+    shared-slice-read-bytes16-6
+    bytes16-requires-3
     returns)

@@ -19,9 +19,18 @@ key-states-requires c κs =
     let e : length (d .derive .result .auth) ≡ 20 = rw (d .derive .ensures) (derived-length (d .before .args .key) (d .before .args .salt) 1 20) in
     omega arith
 
+subkey-requires : tie.Need-subkey-requires
+subkey-requires c κs = search needs
+
 returns : tie.Need-returns
-returns c = rw (c .key-states .ensures, c .before .before .before .before .before .before .before .derive .ensures)
+returns c = rw (c .subkey .ensures, c .before .key-states .ensures, c .before .before .before .before .before .before .before .before .derive .ensures)
 
 pub session-keys-spec : {M : Type 1} → statement M
 session-keys-spec =
-    tie.close (tie.spec derive-requires slice-aggregate-key-states key-states-requires returns)
+    tie.close
+    (tie.spec
+    derive-requires
+    slice-aggregate-key-states
+    key-states-requires
+    subkey-requires
+    returns)

@@ -16,10 +16,13 @@ part-ssrc-end : tie.Need-part-ssrc-end
 part-ssrc-end c = search needs
 
 ssrc-requires : tie.Need-ssrc-requires
-ssrc-requires c κs = let p = c .before .before .before .before .pre in judged-long _ _ _ _ _ (p .1 .inside) (p .1 .judged)
+ssrc-requires c κs = let p = c .before .before .before .before .pre in judged-long _ _ _ _ _ _ (p .1 .inside) (p .1 .judged)
 
-shared-slice-read-load-policy : tie.Need-shared-slice-read-load-policy
-shared-slice-read-load-policy c = search needs
+shared-slice-read-first : tie.Need-shared-slice-read-first
+shared-slice-read-first c = search needs
+
+load-suite-requires : tie.Need-load-suite-requires
+load-suite-requires c κs = search needs
 
 load-policy-requires : tie.Need-load-policy-requires
 load-policy-requires c κs = search needs
@@ -35,10 +38,11 @@ unprotect-packet-requires c κs =
     let io = c .before .before in
     let ko = io .before in
     let lp = ko .before in
-    let sc = lp .before .before in
+    let ls = lp .before in
+    let sc = ls .before .before in
     let s = sc .before .before .before .before .before in
     let p = s .pre in
-    rw (lp .load-policy .ensures) (p .0, (p .1 .inside, p .1 .judged))
+    rw (lp .load-policy .ensures, ls .load-suite .ensures) (p .0, (p .1 .inside, p .1 .judged))
 
 same-length : tie.Need-same-length
 same-length c = search needs
@@ -49,10 +53,11 @@ returns c =
     let io = up .before .before .before in
     let ko = io .before in
     let lp = ko .before in
-    let sc = lp .before .before in
+    let ls = lp .before in
+    let sc = ls .before .before in
     let s = sc .before .before .before .before .before in (
-      rw (ko .keys-of .ensures) at (up .unprotect-packet .ensures .0),
-      rw (ko .keys-of .ensures, lp .load-policy .ensures, io .ids-of .ensures, own-ssrc (s .args .buf .now) (s .args .n) _ (sc .ssrc .ensures)) at (up .unprotect-packet .ensures .1),
+      rw (ko .keys-of .ensures, lp .load-policy .ensures, ls .load-suite .ensures, own-ssrc (s .args .buf .now) (s .args .n) _ (sc .ssrc .ensures)) at (up .unprotect-packet .ensures .0),
+      rw (ko .keys-of .ensures, lp .load-policy .ensures, ls .load-suite .ensures, io .ids-of .ensures, own-ssrc (s .args .buf .now) (s .args .n) _ (sc .ssrc .ensures)) at (up .unprotect-packet .ensures .1),
     )
 
 pub decrypt-at-spec : {M : Type 1} → statement M
@@ -63,7 +68,8 @@ decrypt-at-spec =
     part-ssrc-start
     part-ssrc-end
     ssrc-requires
-    shared-slice-read-load-policy
+    shared-slice-read-first
+    load-suite-requires
     load-policy-requires
     keys-of-requires
     ids-of-requires

@@ -2,6 +2,8 @@
 use mathlib.Core.Path.{_≡_, refl, sym, ap, _∙_}
 use Rattle.front.proofs.Opens.{judged-long}
 use Rattle.streams.proofs.Effects.{wire-length, own-ssrc}
+use Rattle.memory.specs.Words.{word}
+use Rattle.session.specs.Memory.{suiteAt}
 use borrow.Author.Needs.{needs}
 use Rattle.streams.proofs.stream.encrypt_at.Statement.{statement}
 use Rattle.streams.proofs.stream.encrypt_at.Tie as tie
@@ -16,10 +18,13 @@ part-ssrc-end : tie.Need-part-ssrc-end
 part-ssrc-end c = search needs
 
 ssrc-requires : tie.Need-ssrc-requires
-ssrc-requires c κs = let p = c .before .before .before .before .pre in judged-long _ _ _ _ _ (p .1 .inside) (p .1 .judged)
+ssrc-requires c κs = let p = c .before .before .before .before .pre in judged-long _ _ _ _ _ _ (p .1 .inside) (p .1 .judged)
 
-shared-slice-read-load-policy : tie.Need-shared-slice-read-load-policy
-shared-slice-read-load-policy c = search needs
+shared-slice-read-first : tie.Need-shared-slice-read-first
+shared-slice-read-first c = search needs
+
+load-suite-requires : tie.Need-load-suite-requires
+load-suite-requires c κs = search needs
 
 load-policy-requires : tie.Need-load-policy-requires
 load-policy-requires c κs = search needs
@@ -35,10 +40,11 @@ protect-packet-requires c κs =
     let io = c .before .before in
     let ko = io .before in
     let lp = ko .before in
-    let sc = lp .before .before in
+    let ls = lp .before in
+    let sc = ls .before .before in
     let s = sc .before .before .before .before .before in
     let p = s .pre in
-    rw (lp .load-policy .ensures) ((p .0, (p .1 .inside, p .1 .judged)), p .1 .room)
+    rw (lp .load-policy .ensures, ls .load-suite .ensures) ((p .0, (p .1 .inside, p .1 .judged)), p .1 .room)
 
 same-length : tie.Need-same-length
 same-length c = search needs
@@ -49,13 +55,14 @@ returns c =
     let io = pp .before .before .before in
     let ko = io .before in
     let lp = ko .before in
-    let sc = lp .before .before in
+    let ls = lp .before in
+    let sc = ls .before .before in
     let s = sc .before .before .before .before .before in
     let b = s .args .buf .now in
     let n = s .args .n in
-    let l = wire-length _ b n (s .args .h) (s .pre .1 .judged) in
-    let m = rw (lp .load-policy .ensures) at (pp .protect-packet .ensures .0) ∙ sym l in
-    let w = rw (ko .keys-of .ensures, lp .load-policy .ensures, io .ids-of .ensures, own-ssrc b n _ (sc .ssrc .ensures)) at (pp .protect-packet .ensures .1) in
+    let l = wire-length (suiteAt (word (s .args .session .now) 0)) _ b n (s .args .h) (s .pre .1 .judged) in
+    let m = rw (lp .load-policy .ensures, ls .load-suite .ensures) at (pp .protect-packet .ensures .0) ∙ sym l in
+    let w = rw (ko .keys-of .ensures, lp .load-policy .ensures, ls .load-suite .ensures, io .ids-of .ensures, own-ssrc b n _ (sc .ssrc .ensures)) at (pp .protect-packet .ensures .1) in
     (m, rw m at w)
 
 pub encrypt-at-spec : {M : Type 1} → statement M
@@ -66,7 +73,8 @@ encrypt-at-spec =
     part-ssrc-start
     part-ssrc-end
     ssrc-requires
-    shared-slice-read-load-policy
+    shared-slice-read-first
+    load-suite-requires
     load-policy-requires
     keys-of-requires
     ids-of-requires

@@ -1,0 +1,4 @@
+pub mod Gctr
+pub mod Gcm
+pub mod Steps
+pub mod Claims

@@ -1,0 +1,3 @@
+pub mod Groups
+pub mod Moves
+pub mod Entries
