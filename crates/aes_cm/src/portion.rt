@@ -2,10 +2,10 @@
 use aes::blocks::Start;
 use aes::blocks::round_keys;
 use aes_counter::start::packet_start;
-use aes_keystream::keystream::Keystream;
 use aes_keystream::keystream::xor_stretch;
+use aes_keystream::seek::seek;
 ghost use mathlib.Core.Path.{_≡_};
-ghost use Prim.Native.Nat.{ℕ, _+_, _%_, _≤_};
+ghost use Prim.Native.Nat.{_+_, _≤_};
 ghost use lib.ListN.{length};
 ghost use Rattle.bits.specs.Xor.{xorPad};
 ghost use Rattle.aes_tables.specs.Tables.{SboxTable, RoundTable};
@@ -14,7 +14,7 @@ ghost use Rattle.aes_counter.specs.Keystream.{keystreamOf};
 ghost use Rattle.stretches.specs.Stretch.{keystreamEnd};
 ghost use Rattle.aes_cm.specs.Portion.{portionPad};
 
-// The bytes from `first` up to `stop` and from `rest` on are two neighbouring stretches, of the keystream from byte `from` on: AES in counter mode starts at
+// The bytes from `first` up to `stop` and from `rest` on are two neighbouring stretches, of the keystream from any byte `from` on: AES in counter mode starts at
 // its first byte, GCM at byte 32, where the counter is 2. A block that both sides share is carried along, and so made once. The buffer ends before the keystream
 // does, so neither is LARGE.
 pub fn xor_from(
@@ -30,13 +30,10 @@ pub fn xor_from(
 )
     requires { ⌜ Lent (now sbox) (now table) (now keys) (start .key) ⌝ }
     requires { ⌜ Started start ⌝ }
-    requires { ⌜ (from % 16 ≡ 0) × ((first ≤ stop) × ((stop ≤ rest) × ((rest ≤ length (now buf)) × (from + length (now buf) ≤ keystreamEnd)))) ⌝ }
+    requires { ⌜ (first ≤ stop) × ((stop ≤ rest) × ((rest ≤ length (now buf)) × (from + length (now buf) ≤ keystreamEnd))) ⌝ }
     ensures { λ _. ⌜ now (buf .exit) ≡ xorPad (portionPad first stop rest (λ k. byteFrom (start .key) (start .block) (from + k))) (now (buf .entry)) ⌝ }
 {
-    let s = Keystream {
-        block: [0u8; 16],
-        at: from,
-    };
+    let s = seek(sbox, table, keys, start, from);
     if first == stop {
         xor_stretch(sbox, table, keys, start, &mut buf[rest..], s);
         return;

@@ -5,7 +5,7 @@ use aes::blocks::round_keys;
 use aes_cm::portion::xor_from;
 use aes_tables::tables;
 ghost use mathlib.Core.Path.{_≡_};
-ghost use Prim.Native.Nat.{_+_, _%_, _≤_};
+ghost use Prim.Native.Nat.{_+_, _≤_};
 ghost use lib.ListN.{length};
 ghost use Rattle.bits.specs.Xor.{xorPad};
 ghost use Rattle.aes.specs.Blocks.{byteFrom};
@@ -13,7 +13,7 @@ ghost use Rattle.aes_cm.specs.Portion.{portionPad};
 ghost use Rattle.stretches.specs.Stretch.{keystreamEnd};
 ghost use Rattle.gcm.specs.Steps.{baseOf, sealedOf};
 
-// The keystream of the counter blocks, from its byte `from` on. The cipher's tables are made here: whoever calls it needs no room for them beside its own.
+// The keystream of the counter blocks, from any byte `from` of it on. The cipher's tables are made here: whoever calls it needs no room for them beside its own.
 pub fn crypt_from(
     key: [u8; 16],
     iv: [u8; 12],
@@ -23,7 +23,7 @@ pub fn crypt_from(
     stop: usize,
     rest: usize,
 )
-    requires { ⌜ (from % 16 ≡ 0) × ((first ≤ stop) × ((stop ≤ rest) × ((rest ≤ length (now buf)) × (from + length (now buf) ≤ keystreamEnd)))) ⌝ }
+    requires { ⌜ (first ≤ stop) × ((stop ≤ rest) × ((rest ≤ length (now buf)) × (from + length (now buf) ≤ keystreamEnd))) ⌝ }
     ensures { λ _. ⌜ now (buf .exit) ≡ xorPad (portionPad first stop rest (λ k. byteFrom key (baseOf iv) (from + k))) (now (buf .entry)) ⌝ }
 {
     let sbox = tables::sbox();

@@ -1,10 +1,10 @@
 -- The list that is hashed.
 use mathlib.Core.Path.{_≡_, sym, ap, ap₂, _∙_}
-use mathlib.Core.List.{List, _++_, append-assoc}
+use mathlib.Core.List.{List, _++_, append-assoc, append-nil}
 use Prim.Native.Nat.{ℕ, _+_, _-_, _%_, _≤_}
 use native.Mathlib.Omega.{arith}
 use lib.ListN.{length, take, drop, replicate, length-append, length-replicate, length-drop}
-use lib.Seq.{take-all, length-take-le}
+use lib.Seq.{take-add, take-all, length-take-le}
 use Rattle.ghash.specs.Ghash.{ghashOf, zerosOf, paddedOf, lengthsOf}
 use Rattle.ghash.proofs.Feeding.{part-length}
 use Rattle.gcm_hash.specs.Hash.{hashOf}
@@ -61,3 +61,21 @@ module _ (l : List ℕ) (first stop rest : ℕ) (up : first ≤ stop) (on : stop
       ∙ ap (ghashOf h) (hashed-list (take first l) b c (drop rest l) m)
       ∙ ap₂ (λ (x y : ℕ). ghashOf h (paddedOf (outsideOf first stop rest l) ++ (paddedOf (insideOf first stop rest l) ++ lengthsOf x y)))
       (sym outside-length) (sym inside-length)
+
+-- ---- nothing encrypted before the gap: one part, then the cipher text
+
+pub one-outside : (first stop rest : ℕ) (l : List ℕ) → first ≡ stop → stop ≤ rest → outsideOf rest rest rest l ≡ outsideOf first stop rest l
+one-outside first stop rest l e h =
+    let none : rest - rest ≡ 0 = omega arith in
+    let whole : rest ≡ first + (rest - stop) = omega arith in
+    ap (λ (n : ℕ). take rest l ++ take n (drop rest l)) none
+    ∙ append-nil (take rest l)
+    ∙ ap (λ (n : ℕ). take n l) whole
+    ∙ take-add first (rest - stop) l
+    ∙ ap (λ (n : ℕ). take first l ++ take (rest - stop) (drop n l)) e
+
+pub one-inside : (first stop rest : ℕ) (l : List ℕ) → first ≡ stop → insideOf rest rest rest l ≡ insideOf first stop rest l
+one-inside first stop rest l e =
+    let none : rest - rest ≡ 0 = omega arith in
+    let none' : 0 ≡ stop - first = omega arith in
+    ap (λ (n : ℕ). take n (drop rest l) ++ drop rest l) none ∙ ap (λ (n : ℕ). take n (drop first l) ++ drop rest l) none'

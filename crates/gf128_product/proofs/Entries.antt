@@ -1,82 +1,16 @@
--- The rules of the tables.
+-- The entries of a subkey's table.
 use mathlib.Core.Path.{_≡_, refl, sym, ap, ap₂, subst, _∙_}
 use mathlib.Core.List.{List, [], _∷_}
-use Prim.Native.Nat.{ℕ, zero, suc, _+_, _*_, _/_, _%_, _^_, _<_}
+use Prim.Native.Nat.{ℕ, zero, suc, _+_, _*_, _/_, _%_, _<_}
 use native.Mathlib.Nat.{zero-mul, one-mul}
 use native.Mathlib.Omega.{arith}
-use lib.Bits.{bitXor, xor-zero-r, xor-shifted}
-use lib.Dec.{T, eqb}
-use lib.ListN.{length, getD}
-use lib.Pow.{split}
+use lib.Bits.{bitXor, xor-zero-r}
+use lib.ListN.{getD}
 use Rattle.bits.specs.Xor.{_⊕_}
-use Rattle.bits.proofs.Table.{every, rule}
-use Rattle.bits.proofs.Xor.{xor-shift}
-use Rattle.gf128.specs.declared.block.Block.{Block}
 use Rattle.gf128.specs.Product.{nextOf, sumOf}
-use Rattle.gf128.specs.Steps.{valueOf}
-use Rattle.gf128_product.specs.Steps.{nextsOf, moreOf, entryOf, ReductionTable, Multiples, KeyTable}
+use Rattle.gf128_product.specs.Steps.{nextsOf, entryOf, Multiples, KeyTable}
 use Rattle.gf128.proofs.Products.{sum-linear-left}
-use Rattle.gf128_product.proofs.Groups.{nexts-linear, sum-byte}
-
--- ---- reductions: each entry, moved to the front, is eight steps of its place
-
-abbrev paired : List ℕ → List ℕ
-paired [] = []
-paired (x ∷ []) = x ∷ []
-paired (x ∷ y ∷ l) = (x + y * 256) ∷ paired l
-
-paired-at : (l : List ℕ) (k : ℕ) → getD (paired l) k 0 ≡ getD l (2 * k) 0 + getD l (2 * k + 1) 0 * 256
-paired-at [] k = refl
-paired-at (x ∷ []) zero = omega arith
-paired-at (x ∷ []) (suc k) =
-    let e : 2 * suc k ≡ suc (suc (2 * k)) = omega arith in
-    let f : 2 * suc k + 1 ≡ suc (suc (2 * k + 1)) = omega arith in
-    sym (ap₂ (λ (a b : ℕ). getD (x ∷ []) a 0 + getD (x ∷ []) b 0 * 256) e f)
-paired-at (x ∷ y ∷ l) zero = refl
-paired-at (x ∷ y ∷ l) (suc k) =
-    let e : 2 * suc k ≡ suc (suc (2 * k)) = omega arith in
-    let f : 2 * suc k + 1 ≡ suc (suc (2 * k + 1)) = omega arith in
-    paired-at l k ∙ sym (ap₂ (λ (a b : ℕ). getD (x ∷ y ∷ l) a 0 + getD (x ∷ y ∷ l) b 0 * 256) e f)
-
--- what the high and the low four bits of a place bring, by eight steps of each; the test that antt computes takes the two together
-abbrev highs : List ℕ
-highs = 0x0000 ∷ 0x1c20 ∷ 0x3840 ∷ 0x2460 ∷ 0x7080 ∷ 0x6ca0 ∷ 0x48c0 ∷ 0x54e0 ∷ 0xe100 ∷ 0xfd20 ∷ 0xd940 ∷ 0xc560 ∷ 0x9180 ∷ 0x8da0 ∷ 0xa9c0 ∷ 0xb5e0 ∷ []
-
-abbrev lows : List ℕ
-lows = 0x0000 ∷ 0x01c2 ∷ 0x0384 ∷ 0x0246 ∷ 0x0708 ∷ 0x06ca ∷ 0x048c ∷ 0x054e ∷ 0x0e10 ∷ 0x0fd2 ∷ 0x0d94 ∷ 0x0c56 ∷ 0x0918 ∷ 0x08da ∷ 0x0a9c ∷ 0x0b5e ∷ []
-
-high-is : (i : ℕ) → i < 16 → getD highs i 0 * 2 ^ 112 ≡ nextsOf 8 (i * 2 ^ 4)
-unfolding nextsOf
-high-is i h = rule (λ x. x * 2 ^ 112) (λ k. nextsOf 8 (k * 2 ^ 4)) highs tt i h
-
-low-is : (j : ℕ) → j < 16 → getD lows j 0 * 2 ^ 112 ≡ nextsOf 8 j
-unfolding nextsOf
-low-is j h = rule (λ x. x * 2 ^ 112) (nextsOf 8) lows tt j h
-
-both : ℕ → ℕ
-both k = getD highs (k / 16) 0 ⊕ getD lows (k % 16) 0
-
-both-is : (k : ℕ) → k < 256 → both k * 2 ^ 112 ≡ nextsOf 8 k
-unfolding both
-both-is k h =
-    let i = k / 2 ^ 4 in
-    let j = k % 2 ^ 4 in
-    sym (xor-shift 112 (getD highs i 0) (getD lows j 0))
-    ∙ ap₂ bitXor (high-is i (omega arith)) (low-is j (omega arith))
-    ∙ sym (nexts-linear 8 (i * 2 ^ 4) j)
-    ∙ ap (nextsOf 8) (xor-shifted i 4 j (omega arith) ∙ split k 4)
-
-abbrev pub Entries : List ℕ → Type 0
-Entries xs = T (every (λ k x. eqb x (getD highs (k / 16) 0 ⊕ getD lows (k % 16) 0)) 0 (paired xs))
-
-pub entries : (xs : List ℕ) → length (paired xs) ≡ 256 → Entries xs → ReductionTable xs
-unfolding both
-entries xs e t =
-    record {
-      entry = λ k h.
-          let n : k < length (paired xs) = omega arith in
-          ap (λ (x : ℕ). x * 2 ^ 112) (sym (paired-at xs k) ∙ rule (λ x. x) both (paired xs) t k n) ∙ both-is k h;
-    }
+use Rattle.gf128_product.proofs.Groups.{nexts-add}
 
 -- ---- multiples: those of one bit, and the sum of two entries
 
@@ -110,6 +44,11 @@ below-four P a b c d (suc (suc zero)) h = c
 below-four P a b c d (suc (suc (suc zero))) h = d
 below-four P a b c d (suc (suc (suc (suc k)))) h = absurd (omega arith)
 
+below-two : (P : ℕ → Type 0) → P 0 → P 1 → (k : ℕ) → k < 2 → P k
+below-two P a b zero h = a
+below-two P a b (suc zero) h = b
+below-two P a b (suc (suc k)) h = absurd (omega arith)
+
 pub all-sixteen : (v : ℕ) (t : List ℕ) → let right : ℕ → Type 0 = λ k. entryOf t k ≡ sumOf 4 k v in
     right 0 → right 1 → right 2 → right 3 → right 4 → right 5 → right 6 → right 7
     → right 8 → right 9 → right 10 → right 11 → right 12 → right 13 → right 14 → right 15 → Multiples v t
@@ -127,17 +66,36 @@ all-sixteen v t p0 p1 p2 p3 p4 p5 p6 p7 p8 p9 p10 p11 p12 p13 p14 p15 =
           (k / 4) (omega arith) (k % 4) (omega arith));
     }
 
--- the table of a subkey: its multiples, and those of its fourth next
-pub four-on : (h a b c d : Block) (t u : List ℕ) → valueOf a ≡ nextOf (valueOf h) → valueOf b ≡ nextOf (valueOf a) → valueOf c ≡ nextOf (valueOf b) → valueOf d ≡ nextOf (valueOf c)
-    → Multiples (valueOf h) t → Multiples (valueOf d) u → KeyTable (valueOf h) (t ∷ u ∷ [])
-unfolding nextsOf
-four-on h a b c d t u ea eb ec ed mt mu =
-    let e : valueOf d ≡ nextsOf 4 (valueOf h) = ed ∙ ap nextOf (ec ∙ ap nextOf (eb ∙ ap nextOf ea)) in
-    record { first = mt; second = record { entry = λ k l. mu .entry k l ∙ ap (sumOf 4 k) e } }
+-- ---- the table of a subkey
 
--- what a byte brings: an entry for each of its halves
-pub by-byte : (h z b : ℕ) (t : List (List ℕ)) → KeyTable h t → b < 256 → (r m x : ℕ) → r ≡ m ⊕ x → m ≡ nextsOf 8 z
-    → x ≡ entryOf (getD t 0 []) (b / 16) ⊕ entryOf (getD t 1 []) (b % 16) → r ≡ moreOf 8 h z b
-unfolding moreOf
-by-byte h z b t k l r m x er em ex =
-    er ∙ ap₂ bitXor em (ex ∙ ap₂ bitXor (k .first .entry (b / 16) (omega arith)) (k .second .entry (b % 16) (omega arith)) ∙ sym (sum-byte b h))
+-- four bits on
+on : (i h x y : ℕ) → x ≡ nextsOf (4 * i) h → y ≡ nextsOf 4 x → y ≡ nextsOf (4 * suc i) h
+on i h x y e f =
+    let n : 4 * i + 4 ≡ 4 * suc i = omega arith in
+    f ∙ ap (nextsOf 4) e ∙ sym (nexts-add (4 * i) 4 h) ∙ ap (λ (k : ℕ). nextsOf k h) n
+
+below-eight : (P : ℕ → Type 0) → P 0 → P 1 → P 2 → P 3 → P 4 → P 5 → P 6 → P 7 → (k : ℕ) → k < 8 → P k
+below-eight P a b c d e f g h k l =
+    let n : 4 * (k / 4) + k % 4 ≡ k = omega arith in
+    subst P n
+    (below-two (λ i. (j : ℕ) → j < 4 → P (4 * i + j)) (below-four (λ j. P (4 * 0 + j)) a b c d) (below-four (λ j. P (4 * 1 + j)) e f g h) (k / 4) (omega arith) (k % 4) (omega arith))
+
+pub eight-lists : (h h1 h2 h3 h4 h5 h6 h7 : ℕ) (t0 t1 t2 t3 t4 t5 t6 t7 : List ℕ)
+    → h1 ≡ nextsOf 4 h → h2 ≡ nextsOf 4 h1 → h3 ≡ nextsOf 4 h2 → h4 ≡ nextsOf 4 h3 → h5 ≡ nextsOf 4 h4 → h6 ≡ nextsOf 4 h5 → h7 ≡ nextsOf 4 h6
+    → Multiples h t0 → Multiples h1 t1 → Multiples h2 t2 → Multiples h3 t3 → Multiples h4 t4 → Multiples h5 t5 → Multiples h6 t6 → Multiples h7 t7
+    → KeyTable h (t0 ∷ t1 ∷ t2 ∷ t3 ∷ t4 ∷ t5 ∷ t6 ∷ t7 ∷ [])
+unfolding nextsOf
+eight-lists h h1 h2 h3 h4 h5 h6 h7 t0 t1 t2 t3 t4 t5 t6 t7 e1 e2 e3 e4 e5 e6 e7 m0 m1 m2 m3 m4 m5 m6 m7 =
+    let t = t0 ∷ t1 ∷ t2 ∷ t3 ∷ t4 ∷ t5 ∷ t6 ∷ t7 ∷ [] in
+    let of : (u : List ℕ) (x y : ℕ) → x ≡ y → Multiples x u → Multiples y u = λ u x y e m. subst (λ (v : ℕ). Multiples v u) e m in
+    let f1 = on 0 h h h1 refl e1 in
+    let f2 = on 1 h h1 h2 f1 e2 in
+    let f3 = on 2 h h2 h3 f2 e3 in
+    let f4 = on 3 h h3 h4 f3 e4 in
+    let f5 = on 4 h h4 h5 f4 e5 in
+    let f6 = on 5 h h5 h6 f5 e6 in
+    let f7 = on 6 h h6 h7 f6 e7 in
+    record {
+      multiples = below-eight (λ i. Multiples (nextsOf (4 * i) h) (getD t i []))
+          m0 (of t1 h1 _ f1 m1) (of t2 h2 _ f2 m2) (of t3 h3 _ f3 m3) (of t4 h4 _ f4 m4) (of t5 h5 _ f5 m5) (of t6 h6 _ f6 m6) (of t7 h7 _ f7 m7);
+    }

@@ -24,7 +24,7 @@ nexts-add zero n v = rw zero-add
 nexts-add (suc m) n v = ap (λ (k : ℕ). nextsOf k v) (suc-add m n) ∙ nexts-add m n (nextOf v)
 
 -- a block that ends in n zeros only moves
-nexts-up : (n a : ℕ) → nextsOf n (a * 2 ^ n) ≡ a
+pub nexts-up : (n a : ℕ) → nextsOf n (a * 2 ^ n) ≡ a
 unfolding nextsOf
 nexts-up zero a = omega arith
 nexts-up (suc n) a =
@@ -78,6 +78,10 @@ sum-low n x v =
 
 -- ---- a factor's bits in groups, the lower first
 
+pub more-is : (n h z w : ℕ) → nextsOf n z ⊕ sumOf n w h ≡ moreOf n h z w
+unfolding moreOf
+more-is n h z w = refl
+
 pub more-more : (m n h z w : ℕ) → moreOf n h (moreOf m h z (w % 2 ^ m)) (w / 2 ^ m) ≡ moreOf (m + n) h z w
 unfolding moreOf
 more-more m n h z w =
@@ -94,9 +98,18 @@ more-more m n h z w =
     ∙ sum-more n m w h
     ∙ ap (bitXor c) (sum-nexts n m w h)))
 
--- a byte by its two halves
-pub sum-byte : (b h : ℕ) → sumOf 8 b h ≡ sumOf 4 (b / 2 ^ 4) h ⊕ sumOf 4 (b % 2 ^ 4) (nextsOf 4 h)
-sum-byte b h = sum-more 4 4 b h ∙ ap (bitXor (sumOf 4 (b / 2 ^ 4) h)) (sym (sum-low 4 b (nextsOf 4 h)))
+-- m bits and n more, from place 4 i of a subkey on: those after them stand at place 4 j
+pub sum-joined : (m n i j h x : ℕ) → 4 * i + m ≡ 4 * j → sumOf m (x / 2 ^ n) (nextsOf (4 * i) h) ⊕ sumOf n (x % 2 ^ n) (nextsOf (4 * j) h) ≡ sumOf (m + n) x (nextsOf (4 * i) h)
+sum-joined m n i j h x e =
+    let v = nextsOf (4 * i) h in
+    ap (bitXor (sumOf m (x / 2 ^ n) v))
+    (ap (sumOf n (x % 2 ^ n)) (ap (λ (k : ℕ). nextsOf k h) (sym e) ∙ nexts-add (4 * i) m h) ∙ sum-low n x (nextsOf m v))
+    ∙ sym (sum-more m n x v)
+
+-- from the subkey itself on
+pub sum-first : (m n j h x : ℕ) → m ≡ 4 * j → sumOf m (x / 2 ^ n) (nextsOf (4 * 0) h) ⊕ sumOf n (x % 2 ^ n) (nextsOf (4 * j) h) ≡ sumOf (m + n) x h
+unfolding nextsOf
+sum-first m n j h x e = sum-joined m n 0 j h x (zero-add m ∙ e)
 
 -- nothing so far
 nexts-none : (n : ℕ) → nextsOf n 0 ≡ 0
@@ -108,11 +121,14 @@ pub more-none : (n h w : ℕ) → moreOf n h 0 w ≡ sumOf n w h
 unfolding moreOf
 more-none n h w = ap (λ (z : ℕ). z ⊕ sumOf n w h) (nexts-none n) ∙ xor-zero-l (sumOf n w h)
 
--- two halves of a factor, the lower first
-pub whole : (h a l : ℕ) → l < 2 ^ 64 → moreOf 64 h (moreOf 64 h 0 l) a ≡ (a * 2 ^ 64 + l) • h
+-- a factor in two halves, each by its low and its high 32 bits
+pub whole : (h a l : ℕ) → l < 2 ^ 64
+    → moreOf 32 h (moreOf 32 h (moreOf 32 h (moreOf 32 h 0 (l % 2 ^ 32)) (l / 2 ^ 32)) (a % 2 ^ 32)) (a / 2 ^ 32) ≡ (a * 2 ^ 64 + l) • h
 unfolding _•_
 whole h a l b =
     let w = a * 2 ^ 64 + l in
-    ap₂ (λ (x y : ℕ). moreOf 64 h (moreOf 64 h 0 x) y) (sym (low a 64 b)) (sym (high a 64 b))
+    ap (λ (z : ℕ). moreOf 32 h (moreOf 32 h z (a % 2 ^ 32)) (a / 2 ^ 32)) (more-more 32 32 h 0 l)
+    ∙ more-more 32 32 h (moreOf 64 h 0 l) a
+    ∙ ap₂ (λ (x y : ℕ). moreOf 64 h (moreOf 64 h 0 x) y) (sym (low a 64 b)) (sym (high a 64 b))
     ∙ more-more 64 64 h 0 w
     ∙ more-none 128 h w

@@ -1,3 +1,3 @@
 pub mod Groups
-pub mod Moves
+pub mod Falling
 pub mod Entries

@@ -15,19 +15,14 @@ nextsOf (suc n) v = nextsOf n (nextOf v)
 unfoldable pub moreOf : ℕ → ℕ → ℕ → ℕ → ℕ
 moreOf n h z w = nextsOf n z ⊕ sumOf n w h
 
--- entry k of the reduction table, two bytes, the lower first: the 16 bits that the eight low bits k of a block bring to its front when it moves by eight
-pub record ReductionTable (t : List ℕ) : Type 0 where
-  pub entry : (k : ℕ) → k < 256 → (getD t (2 * k) 0 + getD t (2 * k + 1) 0 * 256) * 2 ^ 112 ≡ nextsOf 8 k
-
--- entry k of a list of blocks in two halves
+-- entry k of sixteen blocks: their high halves come first, then their low ones
 abbrev pub entryOf : List ℕ → ℕ → ℕ
-entryOf t k = getD t (2 * k) 0 * 2 ^ 64 + getD t (2 * k + 1) 0
+entryOf t k = getD t k 0 * 2 ^ 64 + getD t (k + 16) 0
 
 -- the sixteen multiples of v: entry k for the four bits of k
 pub record Multiples (v : ℕ) (t : List ℕ) : Type 0 where
   pub entry : (k : ℕ) → k < 16 → entryOf t k ≡ sumOf 4 k v
 
--- the table of a hash subkey: the multiples for the high and for the low four bits of a byte
+-- the table of a hash subkey: multiples for each four of 32 bits, the highest four first
 pub record KeyTable (h : ℕ) (t : List (List ℕ)) : Type 0 where
-  pub first : Multiples h (getD t 0 [])
-  pub second : Multiples (nextsOf 4 h) (getD t 1 [])
+  pub multiples : (i : ℕ) → i < 8 → Multiples (nextsOf (4 * i) h) (getD t i [])

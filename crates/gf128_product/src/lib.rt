@@ -1,4 +1,5 @@
-// The product of a block with a hash subkey, by look-up tables.
+// The product of a block with a hash subkey, by a look-up table.
 // Follows NIST SP 800-38D, section 6.3.
+pub mod moves;
 pub mod product;
-pub mod tables;
+pub mod table;

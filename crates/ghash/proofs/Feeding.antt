@@ -83,7 +83,7 @@ feed-block h y p (b ∷ l) t e = feed-cons h y p b l t (omega arith)
 feed-whole : (h y p : ℕ) (l : List ℕ) → T (areBytes l) → p % 16 ≡ 0 → length l ≡ 16 → feedOf h y p l ≡ (y ⊕ fromBytes l) • h
 feed-whole h y p l t e n = feed-block h y p l t (omega arith)
 
-feed-zeros : (h y p n : ℕ) → p % 16 + suc n ≡ 16 → feedOf h y p (replicate (suc n) 0) ≡ y • h
+pub feed-zeros : (h y p n : ℕ) → p % 16 + suc n ≡ 16 → feedOf h y p (replicate (suc n) 0) ≡ y • h
 feed-zeros h y p n e =
     feed-cons h y p 0 (replicate n 0) (zero-bytes (suc n)) (rw length-replicate e)
     ∙ ap (λ (k : ℕ). (y ⊕ k) • h) (zeros-are-zero (suc n))

@@ -10,8 +10,9 @@ ghost use Prim.Native.Nat.{ℕ, _+_, _%_, _^_, _≤_, _<_};
 ghost use lib.ListN.{length};
 ghost use Rattle.bits.specs.BigEndian.{toBytes};
 ghost use Rattle.ghash.specs.Ghash.{ghashOf, zerosOf, paddedOf, lengthsOf};
+ghost use Rattle.gf128.specs.Product.{_•_};
 ghost use Rattle.gf128.specs.Steps.{valueOf};
-ghost use Rattle.gf128_product.specs.Steps.{ReductionTable, KeyTable};
+ghost use Rattle.gf128_product.specs.Steps.{KeyTable};
 ghost use Rattle.ghash.specs.Steps.{feedOf, Fed};
 
 // The value of the whole blocks so far, with the bytes of the block begun added to it; and the number of bytes so far.
@@ -31,9 +32,38 @@ pub fn start() -> Hash
     }
 }
 
+// The bytes of a part that is whole blocks, where whole blocks came before it.
+fn add_blocks(table: &[[u64; 32]; 8], s: Hash, part: &[u8]) -> Hash
+    requires { ⌜ (length (now part) % 16 ≡ 0) × (s .at + length (now part) < 2 ^ 63) ⌝ }
+    ensures { λ r. ⌜ r .at ≡ s .at + length (now (part .entry)) ⌝ }
+    ensures { λ r. ⌜ ((h : ℕ) → KeyTable h (now (table .entry)) → (0 < length (now (part .entry)) → s .at % 16 ≡ 0) → valueOf (r .value) ≡ feedOf h (valueOf (s .value)) (s .at) (now (part .entry))) ⌝ }
+{
+    let at = s.at;
+    let mut v = s.value;
+    let mut i: usize = 0;
+    while i < part.len() {
+        let u = product(table, xor(v, read(part, i)));
+        v = u;
+        i += 16;
+    }
+    Hash {
+        value: v,
+        at: at + i,
+    }
+}
+
+// One product: the block of zeros after x. So the product has one call, in the loop above, and the compiler takes it into the loop.
+fn multiplied(table: &[[u64; 32]; 8], x: Block) -> Block
+    ensures { λ r. ⌜ ((h : ℕ) → KeyTable h (now (table .entry)) → valueOf r ≡ valueOf x • h) ⌝ }
+{
+    let zeros: [u8; 16] = [0; 16];
+    let s = Hash { value: x, at: 0 };
+    let r = add_blocks(table, s, &zeros);
+    r.value
+}
+
 // A few bytes, no more than the block begun still takes; its last byte brings the product.
-fn add_few(table: &[[u64; 32]; 2], reductions: &[u8; 512], s: Hash, part: &[u8]) -> Hash
-    requires { ⌜ ReductionTable (now reductions) ⌝ }
+fn add_few(table: &[[u64; 32]; 8], s: Hash, part: &[u8]) -> Hash
     requires { ⌜ (s .at % 16 + length (now part) ≤ 16) × (s .at + length (now part) < 2 ^ 63) ⌝ }
     ensures { λ r. ⌜ r .at ≡ s .at + length (now (part .entry)) ⌝ }
     ensures { λ r. ⌜ ((h : ℕ) → KeyTable h (now (table .entry)) → valueOf (r .value) ≡ feedOf h (valueOf (s .value)) (s .at) (now (part .entry))) ⌝ }
@@ -46,7 +76,7 @@ fn add_few(table: &[[u64; 32]; 2], reductions: &[u8; 512], s: Hash, part: &[u8])
     let v = s.value;
     let x = xor(v, placed(part, at % 16));
     if at % 16 + n == 16 {
-        let u = product(table, reductions, x);
+        let u = multiplied(table, x);
         return Hash {
             value: u,
             at: at + n,
@@ -55,27 +85,6 @@ fn add_few(table: &[[u64; 32]; 2], reductions: &[u8; 512], s: Hash, part: &[u8])
     Hash {
         value: x,
         at: at + n,
-    }
-}
-
-// The bytes of a part that is whole blocks, where whole blocks came before it.
-fn add_blocks(table: &[[u64; 32]; 2], reductions: &[u8; 512], s: Hash, part: &[u8]) -> Hash
-    requires { ⌜ ReductionTable (now reductions) ⌝ }
-    requires { ⌜ (length (now part) % 16 ≡ 0) × (s .at + length (now part) < 2 ^ 63) ⌝ }
-    ensures { λ r. ⌜ r .at ≡ s .at + length (now (part .entry)) ⌝ }
-    ensures { λ r. ⌜ ((h : ℕ) → KeyTable h (now (table .entry)) → (0 < length (now (part .entry)) → s .at % 16 ≡ 0) → valueOf (r .value) ≡ feedOf h (valueOf (s .value)) (s .at) (now (part .entry))) ⌝ }
-{
-    let at = s.at;
-    let mut v = s.value;
-    let mut i: usize = 0;
-    while i < part.len() {
-        let u = product(table, reductions, xor(v, read(part, i)));
-        v = u;
-        i += 16;
-    }
-    Hash {
-        value: v,
-        at: at + i,
     }
 }
 
@@ -92,22 +101,20 @@ fn room(at: usize, left: usize) -> usize
 }
 
 // The bytes of a part: those that the block begun still takes, whole blocks, and the rest.
-pub fn feed(table: &[[u64; 32]; 2], reductions: &[u8; 512], s: Hash, part: &[u8]) -> Hash
-    requires { ⌜ ReductionTable (now reductions) ⌝ }
+pub fn feed(table: &[[u64; 32]; 8], s: Hash, part: &[u8]) -> Hash
     requires { ⌜ s .at + length (now part) < 2 ^ 63 ⌝ }
     ensures { λ r. ⌜ r .at ≡ s .at + length (now (part .entry)) ⌝ }
     ensures { λ r. ⌜ ((h : ℕ) (l : List ℕ) → KeyTable h (now (table .entry)) → Fed h l s → Fed h (l ++ now (part .entry)) r) ⌝ }
 {
     let n = room(s.at, part.len());
     let m = n + (part.len() - n) / 16 * 16;
-    let t = add_few(table, reductions, s, &part[..n]);
-    let u = add_blocks(table, reductions, t, &part[n..m]);
-    add_few(table, reductions, u, &part[m..])
+    let t = add_few(table, s, &part[..n]);
+    let u = add_blocks(table, t, &part[n..m]);
+    add_few(table, u, &part[m..])
 }
 
 // Zeros up to the end of the block begun.
-pub fn pad(table: &[[u64; 32]; 2], reductions: &[u8; 512], s: Hash) -> Hash
-    requires { ⌜ ReductionTable (now reductions) ⌝ }
+pub fn pad(table: &[[u64; 32]; 8], s: Hash) -> Hash
     requires { ⌜ s .at < 2 ^ 63 ⌝ }
     ensures { λ r. ⌜ r .at ≡ s .at + zerosOf (s .at) ⌝ }
     ensures { λ r. ⌜ ((h : ℕ) (l : List ℕ) → KeyTable h (now (table .entry)) → Fed h l s → Fed h (paddedOf l) r) ⌝ }
@@ -117,7 +124,7 @@ pub fn pad(table: &[[u64; 32]; 2], reductions: &[u8; 512], s: Hash) -> Hash
         return s;
     }
     let v = s.value;
-    let u = product(table, reductions, v);
+    let u = multiplied(table, v);
     Hash {
         value: u,
         at: at + (16 - at % 16),
@@ -125,8 +132,7 @@ pub fn pad(table: &[[u64; 32]; 2], reductions: &[u8; 512], s: Hash) -> Hash
 }
 
 // The last block, two lengths in bytes, and the hash of the whole.
-pub fn finish(table: &[[u64; 32]; 2], reductions: &[u8; 512], s: Hash, a: usize, c: usize) -> Block
-    requires { ⌜ ReductionTable (now reductions) ⌝ }
+pub fn finish(table: &[[u64; 32]; 8], s: Hash, a: usize, c: usize) -> Block
     requires { ⌜ (a < 2 ^ 60) × (c < 2 ^ 60) ⌝ }
     ensures { λ r. ⌜ ((h : ℕ) (l : List ℕ) → KeyTable h (now (table .entry)) → Fed h l s → length l % 16 ≡ 0 → toBytes 16 (valueOf r) ≡ ghashOf h (l ++ lengthsOf a c)) ⌝ }
 {
@@ -135,5 +141,5 @@ pub fn finish(table: &[[u64; 32]; 2], reductions: &[u8; 512], s: Hash, a: usize,
         low: (8 * c) as u64,
     };
     let v = s.value;
-    product(table, reductions, xor(v, lengths))
+    multiplied(table, xor(v, lengths))
 }

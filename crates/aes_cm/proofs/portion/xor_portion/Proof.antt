@@ -1,5 +1,5 @@
 -- `aes_cm::portion::xor_portion` meets its contract: the portion by the blocks of its key and its first counter block.
-use mathlib.Core.Path.{refl, ap, _∙_}
+use mathlib.Core.Path.{ap, _∙_}
 use Prim.Native.Nat.{_+_}
 use native.Mathlib.Nat.{zero-add}
 use native.Mathlib.Omega.{arith}
@@ -31,7 +31,7 @@ xor-from-requires c κs =
     let k = g .before .before in
     let e = g .packet-start .ensures .0 in
     let p = entry k .pre .1 in
-    (lent-start _ _ _ _ (g .packet-start .result) (e .0) (lends k), (e .1, (refl, (p .0, (p .1 .0, (p .1 .1 .0, omega (arith, p .1 .1 .1)))))))
+    (lent-start _ _ _ _ (g .packet-start .result) (e .0) (lends k), (e .1, (p .0, (p .1 .0, (p .1 .1 .0, omega (arith, p .1 .1 .1))))))
 
 same-length : tie.Need-same-length
 same-length c = search needs

@@ -38,7 +38,7 @@ returns c =
     let t = u .before .before in
     let s = t .before .before .before in
     let g = s .args in
-    let p = s .pre .1 .0 in
+    let p = s .pre .0 in
     let l = g .buf .now in (
       omega (arith, part-length l (g .a) (g .e) (p .0) (p .1 .0), part-length l (g .c) (g .f) (p .1 .1 .0) (p .1 .1 .1), t .feed .ensures .0, u .feed2 .ensures .0, c .pad .ensures .0),
       λ h k q f. c .pad .ensures .1 h _ q (u .feed2 .ensures .1 h _ q (t .feed .ensures .1 h k q f)),

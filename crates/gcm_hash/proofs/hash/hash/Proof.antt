@@ -1,47 +1,28 @@
 -- `gcm_hash::hash::hash` meets its contract.
-use mathlib.Core.Path.{subst, ap, _∙_}
-use Prim.Native.Nat.{ℕ, _≤_}
+use mathlib.Core.Path.{ap₂, _∙_}
 use borrow.Author.Needs.{needs}
-use lib.ListN.{length}
-use lib.Seq.{take-all}
 use Rattle.bits.specs.BigEndian.{fromBytes}
-use Rattle.gf128_product.specs.Steps.{KeyTable}
+use Rattle.gcm_hash.specs.Hash.{hashOf}
+use Rattle.gcm_hash.proofs.Hashes.{one-outside, one-inside}
 use Rattle.gcm_hash.proofs.hash.hash.Statement.{statement}
 use Rattle.gcm_hash.proofs.hash.hash.Tie as tie
 
-sixteen : (s : tie.Start) → length (s .args .t1) ≤ 16
-sixteen s = search needs
-
-reductions-requires : tie.Need-reductions-requires
-reductions-requires c κs = search needs
-
-slice-aggregate-read : tie.Need-slice-aggregate-read
-slice-aggregate-read c = search needs
-
-read-requires : tie.Need-read-requires
-read-requires c κs = search needs
-
-key-table-requires : tie.Need-key-table-requires
-key-table-requires c κs = search needs
-
-hash-by-requires : tie.Need-hash-by-requires
-hash-by-requires c κs = search needs
+hash-parts-requires : tie.Need-hash-parts-requires
+hash-parts-requires c κs = search needs
 
 returns : tie.Need-returns
 returns c =
-    let t = c .before .before .before in
-    let r = t .before in
-    let s = r .before .before .before .before in
-    c .hash-by .ensures (fromBytes (s .args .t1))
-    (subst (λ (v : ℕ). KeyTable v (t .key-table .result)) (r .read .ensures ∙ ap fromBytes (take-all 16 (s .args .t1) (sixteen s))) (t .key-table .ensures))
+    let t = c .before in
+    let s = t .before .before in
+    let a = s .args in
+    c .hash-parts .ensures
+    ∙ ap₂ (hashOf (fromBytes (a .subkey))) (one-outside (a .first) (a .stop) (a .rest) (a .buf .now) (t .if1 .taken) (s .pre .1 .0)) (one-inside (a .first) (a .stop) (a .rest) (a .buf .now) (t .if1 .taken))
+
+hash-parts-requires-2 : tie.Need-hash-parts-requires-2
+hash-parts-requires-2 c κs = search needs
+
+returns-2 : tie.Need-returns-2
+returns-2 c = c .hash-parts2 .ensures
 
 pub hash-spec : {M : Type 1} → statement M
-hash-spec =
-    tie.close
-    (tie.spec
-    reductions-requires
-    slice-aggregate-read
-    read-requires
-    key-table-requires
-    hash-by-requires
-    returns)
+hash-spec = tie.close (tie.spec hash-parts-requires returns hash-parts-requires-2 returns-2)

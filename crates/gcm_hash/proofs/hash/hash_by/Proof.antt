@@ -19,8 +19,8 @@ feed-two-requires c κs = search needs
 feed-two-requires-2 : tie.Need-feed-two-requires-2
 feed-two-requires-2 c κs =
     let s = c .before .before .before in
-    let p = s .pre .1 in
-    (s .pre .0, ((omega (arith, p .0, p .1 .0), (omega (arith, p .1 .0, p .1 .1 .0), (p .1 .1 .0, omega arith))), (p .1 .1 .1, omega (arith, c .feed-two .ensures .0, c .before .start .ensures .0, p .0, p .1 .0, p .1 .1 .0, p .1 .1 .1))))
+    let p = s .pre in
+    ((omega (arith, p .0, p .1 .0), (omega (arith, p .1 .0, p .1 .1 .0), (p .1 .1 .0, omega arith))), (p .1 .1 .1, omega (arith, c .feed-two .ensures .0, c .before .start .ensures .0, p .0, p .1 .0, p .1 .1 .0, p .1 .1 .1)))
 
 sub-a : tie.Need-sub-a
 sub-a c = search needs
@@ -50,7 +50,7 @@ returns c =
     let t = u .before in
     let s = t .before .before .before in
     let g = s .args in
-    let p = s .pre .1 in
+    let p = s .pre in
     let l = g .buf .now in
     let a = take (g .first - 0) (drop 0 l) ++ take (g .rest - g .stop) (drop (g .stop) l) in
     let d = (paddedOf a ++ take (g .stop - g .first) (drop (g .first) l)) ++ take (length l - g .rest) (drop (g .rest) l) in

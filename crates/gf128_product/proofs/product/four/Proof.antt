@@ -1,9 +1,7 @@
 -- `gf128_product::product::four` meets its contract.
-use mathlib.Core.Path.{ap, _∙_}
-use Prim.Native.Nat.{ℕ, _/_, _^_}
-use Rattle.gf128.specs.Steps.{valueOf}
-use Rattle.gf128_product.specs.Steps.{moreOf}
-use Rattle.gf128_product.proofs.Groups.{more-more}
+use mathlib.Core.Path.{refl, ap₂, _∙_}
+use lib.Bits.{bitXor}
+use Rattle.gf128_product.proofs.Groups.{sum-first}
 use borrow.Author.Needs.{needs}
 use Rattle.gf128_product.proofs.product.four.Statement.{statement}
 use Rattle.gf128_product.proofs.product.four.Tie as tie
@@ -20,13 +18,16 @@ cast-two-2 c = search needs
 two-requires-2 : tie.Need-two-requires-2
 two-requires-2 c κs = search needs
 
+xor-requires : tie.Need-xor-requires
+xor-requires c κs = search needs
+
 returns : tie.Need-returns
 returns c =
-    let g = c .before .before .args in
-    λ h k.
-    c .two2 .ensures h k
-    ∙ ap (λ (y : ℕ). moreOf 16 h y (g .w / 2 ^ 16)) (c .before .two .ensures h k)
-    ∙ more-more 16 16 h (valueOf (g .z)) (g .w)
+    let s = c .before .before .before in
+    λ h t.
+    c .xor .ensures
+    ∙ ap₂ bitXor (c .before .before .two .ensures h t) (c .before .two2 .ensures h t)
+    ∙ sum-first 16 16 4 h (s .args .w) refl
 
 pub four-spec : {M : Type 1} → statement M
-four-spec = tie.close (tie.spec cast-two two-requires cast-two-2 two-requires-2 returns)
+four-spec = tie.close (tie.spec cast-two two-requires cast-two-2 two-requires-2 xor-requires returns)

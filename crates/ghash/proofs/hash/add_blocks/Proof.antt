@@ -16,16 +16,16 @@ use Rattle.ghash.proofs.hash.add_blocks.Statement.{statement}
 use Rattle.ghash.proofs.hash.add_blocks.Tie as tie
 
 abbrev Inv-loop : tie.InvT-loop
-Inv-loop table reductions part at v₀ i₀ v i =
+Inv-loop table part at v₀ i₀ v i =
     (i ≤ length part) × ((i % 16 ≡ 0)
     × ((h : ℕ) → KeyTable h table → (0 < length part → at % 16 ≡ 0) → feedOf h (valueOf v) (at + i) (drop i part) ≡ feedOf h (valueOf v₀) at part))
 
 abbrev μ-loop : tie.MeasureT-loop
-μ-loop table reductions part at v₀ i₀ v i = length part - i
+μ-loop table part at v₀ i₀ v i = length part - i
 
 -- a whole block is left
 room : (c : tie.At-loop Inv-loop μ-loop) → c .loop .i < length (c .before .before .before .args .part .now) → c .loop .i + 16 ≤ length (c .before .before .before .args .part .now)
-room c h = let z = c .before .before .before .pre .1 .0 in omega (arith, c .loop .inv .1 .0)
+room c h = let z = c .before .before .before .pre .0 in omega (arith, c .loop .inv .1 .0)
 
 loop-holds : tie.Need-loop-holds Inv-loop μ-loop
 loop-holds c =
@@ -64,8 +64,8 @@ loop-again c =
       ),
     )
 
-add-t13 : tie.Need-add-t13 Inv-loop μ-loop
-add-t13 c = search needs
+add-t12 : tie.Need-add-t12 Inv-loop μ-loop
+add-t12 c = search needs
 
 returns : tie.Need-returns Inv-loop μ-loop
 returns c =
@@ -88,5 +88,5 @@ add-blocks-spec =
     add-i
     loop-less
     loop-again
-    add-t13
+    add-t12
     returns)

@@ -22,11 +22,11 @@ xor-requires c κs = search needs
 add-if2 : tie.Need-add-if2
 add-if2 c = search needs
 
-product-requires : tie.Need-product-requires
-product-requires c κs = search needs
+multiplied-requires : tie.Need-multiplied-requires
+multiplied-requires c κs = search needs
 
-add-t14 : tie.Need-add-t14
-add-t14 c = search needs
+add-t13 : tie.Need-add-t13
+add-t13 c = search needs
 
 returns-2 : tie.Need-returns-2
 returns-2 c =
@@ -38,11 +38,11 @@ returns-2 c =
     let l = s .args .part .now in (
       refl,
       λ h k. fed-last h (valueOf (s .args .s .value)) (s .args .s .at) (valueOf (x .xor .result)) (valueOf (p .placed .result)) l (are-bytes l (λ i. g .shared-slice-known .given i .fits))
-          (p .placed .ensures) (x .xor .ensures) (valueOf (c .product .result)) (c .before .if2 .taken) (c .product .ensures h k),
+          (p .placed .ensures) (x .xor .ensures) (valueOf (c .multiplied .result)) (c .before .if2 .taken) (c .multiplied .ensures h k),
     )
 
-add-t12 : tie.Need-add-t12
-add-t12 c = search needs
+add-t11 : tie.Need-add-t11
+add-t11 c = search needs
 
 returns-3 : tie.Need-returns-3
 returns-3 c =
@@ -54,7 +54,7 @@ returns-3 c =
     let l = s .args .part .now in (
       refl,
       λ h k. fed-inside h (valueOf (s .args .s .value)) (s .args .s .at) (valueOf (x .xor .result)) (valueOf (p .placed .result)) l (are-bytes l (λ i. g .shared-slice-known .given i .fits))
-          (p .placed .ensures) (x .xor .ensures) (omega (arith, c .if2 .left, s .pre .1 .0)),
+          (p .placed .ensures) (x .xor .ensures) (omega (arith, c .if2 .left, s .pre .0)),
     )
 
 pub add-few-spec : {M : Type 1} → statement M
@@ -65,8 +65,8 @@ add-few-spec =
     placed-requires
     xor-requires
     add-if2
-    product-requires
-    add-t14
+    multiplied-requires
+    add-t13
     returns-2
-    add-t12
+    add-t11
     returns-3)

@@ -58,7 +58,7 @@ add-few-requires : tie.Need-add-few-requires
 add-few-requires c κs =
     let r = c .before in
     let s = r .before .before in
-    (s .pre .0, (omega (arith, first-length r, r .room .ensures .0 .1), omega (arith, first-length r, r .room .ensures .0 .0, s .pre .1)))
+    (omega (arith, first-length r, r .room .ensures .0 .1), omega (arith, first-length r, r .room .ensures .0 .0, s .pre))
 
 sub-add-blocks : tie.Need-sub-add-blocks
 sub-add-blocks c = search needs
@@ -74,7 +74,7 @@ add-blocks-requires c κs =
     let t = c .before in
     let r = t .before .before in
     let s = r .before .before in
-    (s .pre .0, (omega (arith, second-length r), omega (arith, first-length r, second-length r, r .room .ensures .0 .0, t .add-few .ensures .0, s .pre .1)))
+    (omega (arith, second-length r), omega (arith, first-length r, second-length r, r .room .ensures .0 .0, t .add-few .ensures .0, s .pre))
 
 sub-add-few : tie.Need-sub-add-few
 sub-add-few c = search needs
@@ -91,7 +91,7 @@ add-few-requires-2 c κs =
     let t = u .before .before in
     let r = t .before .before in
     let s = r .before .before in
-    (s .pre .0, (in-block u, omega (arith, first-length r, second-length r, third-length r, r .room .ensures .0 .0, t .add-few .ensures .0, u .add-blocks .ensures .0, s .pre .1)))
+    (in-block u, omega (arith, first-length r, second-length r, third-length r, r .room .ensures .0 .0, t .add-few .ensures .0, u .add-blocks .ensures .0, s .pre))
 
 returns : tie.Need-returns
 returns c =

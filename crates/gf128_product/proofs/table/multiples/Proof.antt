@@ -1,11 +1,11 @@
--- `gf128_product::tables::multiples` meets its contract: an entry is the sum of the entries of its bits.
+-- `gf128_product::table::multiples` meets its contract: an entry is the sum of the entries of its bits.
 use mathlib.Core.Path.{_≡_, ap, _∙_}
 use Rattle.gf128.specs.Product.{nextOf, sumOf}
 use Rattle.gf128.specs.Steps.{valueOf}
 use Rattle.gf128_product.proofs.Entries.{first, second, third, fourth, none, joined, all-sixteen}
 use borrow.Author.Needs.{needs}
-use Rattle.gf128_product.proofs.tables.multiples.Statement.{statement}
-use Rattle.gf128_product.proofs.tables.multiples.Tie as tie
+use Rattle.gf128_product.proofs.table.multiples.Statement.{statement}
+use Rattle.gf128_product.proofs.table.multiples.Tie as tie
 
 next-requires : tie.Need-next-requires
 next-requires c κs = search needs
