@@ -15,8 +15,8 @@ ghost use Rattle.stretches.specs.Stretch.{keystreamEnd};
 ghost use Rattle.aes_cm.specs.Portion.{portionPad};
 
 // The bytes from `first` up to `stop` and from `rest` on are two neighbouring stretches, of the keystream from any byte `from` on: AES in counter mode starts at
-// its first byte, GCM at byte 32, where the counter is 2. A block that both sides share is carried along, and so made once. The buffer ends before the keystream
-// does, so neither is LARGE.
+// its first byte, GCM's text at byte 32, where the counter is 2, and what hides GCM's hash at byte 16. A block that both sides share is carried along, and so made
+// once. The buffer ends before the keystream does, so neither is LARGE.
 pub fn xor_from(
     sbox: &[u8; 256],
     table: &[u8; 2048],

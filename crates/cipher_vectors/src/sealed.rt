@@ -1,7 +1,7 @@
 // AES-GCM.
 use gcm::gctr::crypt;
 use gcm::subkey::subkey;
-use gcm::tag::tag;
+use gcm::tag::tag_parts;
 use lines::arrays::array12;
 use lines::arrays::array16;
 use lines::hex::put;
@@ -19,7 +19,7 @@ pub fn sealed(key: &[u8], iv: &[u8], from: u64, buf: &mut [u8]) {
     let k = array16(key);
     let v = array12(iv);
     crypt(k, v, buf, text, text, text);
-    let t = tag(k, subkey(k), v, buf, text, text, text);
+    let t = tag_parts(k, subkey(k), v, &buf[0..text], &buf[text..]);
     put(buf);
     put_line(&t);
 }

@@ -22,7 +22,7 @@ use Rattle.aes_cm.proofs.Portions.{past-gap}
 use Rattle.aes_cm.proofs.Streams.{portion-is}
 use Rattle.aes_cm.proofs.Derived.{derived-is}
 use Rattle.gcm_hash.specs.Hash.{hashOf}
-use Rattle.gcm.specs.Gctr.{ciphOf, inc32, counterOf, gctrStream}
+use Rattle.gcm.specs.Gctr.{ciphOf, inc32, counterOf, gctrStream, gctrOf}
 use Rattle.gcm.specs.Gcm.{subkeyOf, j0Of, tagBy}
 use Rattle.gcm.specs.Steps.{baseOf, sealedOf}
 
@@ -100,15 +100,16 @@ module _ (key iv : List ℕ) (n : length iv ≡ 12) where
       (λ k h. sym (text-is key iv n k (omega arith))) e
 
   -- onto the hash, from byte 16 on: all of it is the portion
-  pub tagged : (h s r a c : List ℕ) → length s ≡ 16 → s ≡ hashOf (fromBytes h) a c
-      → r ≡ xorPad (portionPad 0 0 0 (λ k. byteFrom key (baseOf iv) (16 + k))) s → r ≡ tagBy key h iv a c
-  unfolding tagBy
-  tagged h s r a c k es er =
-      er
+  pub hidden-is : (s r : List ℕ) → length s ≡ 16 → r ≡ xorPad (portionPad 0 0 0 (λ k. byteFrom key (baseOf iv) (16 + k))) s → r ≡ gctrOf key (j0Of iv) s
+  hidden-is s r k e =
+      e
       ∙ pad-ext (portionPad 0 0 0 (λ i. byteFrom key (baseOf iv) (16 + i))) (gctrStream key (j0Of iv)) s
       (λ i b. past-gap 0 0 0 (λ j. byteFrom key (baseOf iv) (16 + j)) i (omega arith) (omega arith) (omega arith)
       ∙ (let z : 0 - 0 + (i - 0) ≡ i = omega arith in ap (λ (j : ℕ). byteFrom key (baseOf iv) (16 + j)) z) ∙ sym (hash-is key iv n i (omega arith)))
-      ∙ ap (xorPad (gctrStream key (j0Of iv))) es
+
+pub tagged : (key iv h s r a c : List ℕ) → s ≡ hashOf (fromBytes h) a c → r ≡ gctrOf key (j0Of iv) s → r ≡ tagBy key h iv a c
+unfolding tagBy
+tagged key iv h s r a c es er = er ∙ ap (gctrOf key (j0Of iv)) es
 
 -- ---- the hash subkey: the keystream of zeros, on zeros
 

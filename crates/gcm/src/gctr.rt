@@ -13,7 +13,7 @@ ghost use Rattle.aes_cm.specs.Portion.{portionPad};
 ghost use Rattle.stretches.specs.Stretch.{keystreamEnd};
 ghost use Rattle.gcm.specs.Steps.{baseOf, sealedOf};
 
-// The keystream of the counter blocks, from any byte `from` of it on. The cipher's tables are made here: whoever calls it needs no room for them beside its own.
+// The keystream of the counter blocks, from any byte `from` of it on. The cipher's tables lie in this function's own frame, and are gone when it returns.
 pub fn crypt_from(
     key: [u8; 16],
     iv: [u8; 12],

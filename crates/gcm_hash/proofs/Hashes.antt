@@ -28,54 +28,40 @@ hashed-list a b c d e =
     ∙ ap (λ (l : List ℕ). l ++ e) (padded-after x (c ++ d) (padded-whole (a ++ b)))
     ∙ append-assoc x (paddedOf (c ++ d)) e
 
--- ---- parts of a buffer
+-- what the code feeds is what GCM hashes
+pub fed-is-hashed : (a b c d : List ℕ) (h : ℕ)
+    → ghashOf h (paddedOf ((paddedOf (a ++ b) ++ c) ++ d) ++ lengthsOf (length a + length b) (length c + length d)) ≡ hashOf h (a ++ b) (c ++ d)
+unfolding hashOf
+fed-is-hashed a b c d h =
+    ap (ghashOf h) (hashed-list a b c d (lengthsOf (length a + length b) (length c + length d)))
+    ∙ ap₂ (λ (x y : ℕ). ghashOf h (paddedOf (a ++ b) ++ (paddedOf (c ++ d) ++ lengthsOf x y))) (sym (length-append a b)) (sym (length-append c d))
 
-module _ (l : List ℕ) (first stop rest : ℕ) (up : first ≤ stop) (on : stop ≤ rest) (in-it : rest ≤ length l) where
-  front : take (first - 0) (drop 0 l) ≡ take first l
-  front = let e : first - 0 ≡ first = omega arith in ap (λ (n : ℕ). take n l) e
+-- ---- parts of a buffer, as the code cuts them
 
-  back : take (length l - rest) (drop rest l) ≡ drop rest l
-  back = take-all (length l - rest) (drop rest l) (simp length-drop (omega arith))
+-- from the first place up to n; none; from n on
+front : (n : ℕ) (l : List ℕ) → take (n - 0) (drop 0 l) ≡ take n l
+front n l = let e : n - 0 ≡ n = omega arith in ap (λ (k : ℕ). take k l) e
 
-  outside-length : length (outsideOf first stop rest l) ≡ first + (rest - stop)
-  outside-length =
-      length-append (take first l) (take (rest - stop) (drop stop l))
-      ∙ ap₂ (λ (m n : ℕ). m + n) (length-take-le first l (omega arith)) (part-length l stop rest on in-it)
+back : (n : ℕ) (l : List ℕ) → take (length l - n) (drop n l) ≡ drop n l
+back n l = take-all (length l - n) (drop n l) (simp length-drop (omega arith))
 
-  inside-length : length (insideOf first stop rest l) ≡ stop - first + (length l - rest)
-  inside-length =
-      length-append (take (stop - first) (drop first l)) (drop rest l)
-      ∙ ap₂ (λ (m n : ℕ). m + n) (part-length l first stop up (omega arith)) (length-drop rest l)
+pub outside-cut : (first stop rest : ℕ) (l : List ℕ) → take (first - 0) (drop 0 l) ++ take (rest - stop) (drop stop l) ≡ outsideOf first stop rest l
+outside-cut first stop rest l = ap (λ (x : List ℕ). x ++ take (rest - stop) (drop stop l)) (front first l)
 
-  -- what the code feeds is what GCM hashes
-  pub fed-is-hashed : (h : ℕ)
-      → ghashOf h (paddedOf ((paddedOf (take (first - 0) (drop 0 l) ++ take (rest - stop) (drop stop l)) ++ take (stop - first) (drop first l)) ++ take (length l - rest) (drop rest l))
-      ++ lengthsOf (first + (rest - stop)) (stop - first + (length l - rest)))
-      ≡ hashOf h (outsideOf first stop rest l) (insideOf first stop rest l)
-  unfolding hashOf
-  fed-is-hashed h =
-      let b = take (rest - stop) (drop stop l) in
-      let c = take (stop - first) (drop first l) in
-      let m = lengthsOf (first + (rest - stop)) (stop - first + (length l - rest)) in
-      ap₂ (λ (a d : List ℕ). ghashOf h (paddedOf ((paddedOf (a ++ b) ++ c) ++ d) ++ m)) front back
-      ∙ ap (ghashOf h) (hashed-list (take first l) b c (drop rest l) m)
-      ∙ ap₂ (λ (x y : ℕ). ghashOf h (paddedOf (outsideOf first stop rest l) ++ (paddedOf (insideOf first stop rest l) ++ lengthsOf x y)))
-      (sym outside-length) (sym inside-length)
+pub inside-cut : (first stop rest : ℕ) (l : List ℕ) → take (stop - first) (drop first l) ++ take (length l - rest) (drop rest l) ≡ insideOf first stop rest l
+inside-cut first stop rest l = ap (λ (x : List ℕ). take (stop - first) (drop first l) ++ x) (back rest l)
 
--- ---- nothing encrypted before the gap: one part, then the cipher text
-
-pub one-outside : (first stop rest : ℕ) (l : List ℕ) → first ≡ stop → stop ≤ rest → outsideOf rest rest rest l ≡ outsideOf first stop rest l
-one-outside first stop rest l e h =
-    let none : rest - rest ≡ 0 = omega arith in
+-- nothing encrypted before the gap
+pub outside-one : (first stop rest : ℕ) (l : List ℕ) → first ≡ stop → stop ≤ rest → take (rest - 0) (drop 0 l) ++ take (0 - 0) (drop 0 l) ≡ outsideOf first stop rest l
+outside-one first stop rest l e h =
     let whole : rest ≡ first + (rest - stop) = omega arith in
-    ap (λ (n : ℕ). take rest l ++ take n (drop rest l)) none
-    ∙ append-nil (take rest l)
+    append-nil (take (rest - 0) (drop 0 l))
+    ∙ front rest l
     ∙ ap (λ (n : ℕ). take n l) whole
     ∙ take-add first (rest - stop) l
     ∙ ap (λ (n : ℕ). take first l ++ take (rest - stop) (drop n l)) e
 
-pub one-inside : (first stop rest : ℕ) (l : List ℕ) → first ≡ stop → insideOf rest rest rest l ≡ insideOf first stop rest l
-one-inside first stop rest l e =
-    let none : rest - rest ≡ 0 = omega arith in
-    let none' : 0 ≡ stop - first = omega arith in
-    ap (λ (n : ℕ). take n (drop rest l) ++ drop rest l) none ∙ ap (λ (n : ℕ). take n (drop first l) ++ drop rest l) none'
+pub inside-one : (first stop rest : ℕ) (l : List ℕ) → first ≡ stop → take (0 - 0) (drop 0 l) ++ take (length l - rest) (drop rest l) ≡ insideOf first stop rest l
+inside-one first stop rest l e =
+    let none : 0 ≡ stop - first = omega arith in
+    back rest l ∙ ap (λ (n : ℕ). take n (drop first l) ++ drop rest l) none

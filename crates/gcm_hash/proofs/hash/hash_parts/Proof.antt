@@ -28,7 +28,7 @@ returns : tie.Need-returns
 returns c =
     let t = c .before .before in
     let r = t .before in
-    let s = r .before .before .before in
+    let s = r .before .before .before .before .before .before in
     c .hash-by .ensures (fromBytes (s .args .t1))
     (subst (λ (v : ℕ). KeyTable v (t .key-table .result)) (r .read .ensures ∙ ap fromBytes (take-all 16 (s .args .t1) (sixteen s))) (t .key-table .ensures))
 
