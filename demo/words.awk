@@ -14,7 +14,7 @@ function told(call, a, w, k) {
 }
 function asked(w) {
     if (w[1] == "make") return "make session " w[2] ", policy " w[5] (w[7] == "gcm" ? ", with AES-GCM" : "")
-    if (w[1] == "add") return "add stream " w[3] (w[4] == "s" ? " to send" : " to receive") " in session " w[2] (w[6] == "" ? "" : ", window " w[6])
+    if (w[1] == "add") return "add stream " w[3] (w[4] == "s" ? " to send" : " to receive") " in session " w[2]
     if (w[1] == "protect") return "protect in session " w[2] ", " w[3] " bytes: " shown(w[4], w[3])
     if (w[1] == "unprotect") return "unprotect in session " w[2] ", " w[3] " bytes: " shown(w[4], w[3])
     if (w[1] == "stretch") return "keystream of stream " w[4] ", index " w[5] ", from byte " w[6] " on, over " short(w[7])
@@ -22,7 +22,6 @@ function asked(w) {
 }
 BEGIN {
     split("LENGTH SHORT VERSION HEADER PROFILE ELEMENT LARGE ROOM STREAM ORDER WORN OLD REPEAT TAG KEYS POLICY TWICE FULL ABSENT", name, " ")
-    name[21] = "WINDOW"
 }
 NR == FNR { answer[FNR] = $0; next }
 /^$/ { next }

@@ -19,7 +19,7 @@
  *
  *     uint64_t session[DELUGASH_WORDS];
  *     if (delugash_make(session, DELUGASH_WORDS, key, 16, salt, 14, DELUGASH_CRYPTEX, NULL, 0, DELUGASH_SUITE_CM_HMAC) != DELUGASH_OK) ...
- *     if (delugash_add(session, DELUGASH_WORDS, 0xcafebabe, DELUGASH_SENDING, 0, 0) != DELUGASH_OK) ...
+ *     if (delugash_add(session, DELUGASH_WORDS, 0xcafebabe, DELUGASH_SENDING, 0) != DELUGASH_OK) ...
  *     delugash_answer a = delugash_protect(session, DELUGASH_WORDS, buf, sizeof buf, n);
  *     if (a.number == DELUGASH_OK)
  *         send(socket, buf, a.length, 0);
@@ -37,11 +37,7 @@ extern "C" {
 #endif
 
 /* The words of a session, for arrays; delugash_size() gives the same number. */
-#define DELUGASH_WORDS 1277
-
-/* The least and the greatest window of a receiving stream; windows go in steps of the least. */
-#define DELUGASH_MIN_WINDOW 64
-#define DELUGASH_MAX_WINDOW 1024
+#define DELUGASH_WORDS 285
 
 /* The largest protected packet, and the most that protecting adds to a packet: the tag, which is longest with GCM, and under Cryptex at most a block of
  * four bytes. */
@@ -68,8 +64,8 @@ enum {
     DELUGASH_RECEIVING = 1
 };
 
-/* What calls give back. Where several apply: DELUGASH_MEMORY, then DELUGASH_WAY or DELUGASH_SUITE; of a stretch DELUGASH_SIZES; then the smallest number,
- * but for add, where _WINDOW comes between _KEYS and _TWICE. The tag's length is the suite's; memory that holds no made session counts as of the first suite. */
+/* What calls give back. Where several apply: DELUGASH_MEMORY, then DELUGASH_WAY or DELUGASH_SUITE; of a stretch DELUGASH_SIZES; then the smallest number.
+ * The tag's length is the suite's; memory that holds no made session counts as of the first suite. */
 enum {
     DELUGASH_OK = 0,
     DELUGASH_LENGTH = 1,    /* n is more than the buffer's length */
@@ -83,15 +79,14 @@ enum {
     DELUGASH_STREAM = 9,    /* no stream for this SSRC and this way */
     DELUGASH_ORDER = 10,    /* protect: the sequence number does not go forward by 1 to 32,767 */
     DELUGASH_WORN = 11,     /* the 48-bit packet index is used up: make a session with new keys */
-    DELUGASH_OLD = 12,      /* unprotect: the stream's window or more behind its highest packet accepted, or an index below 0 */
-    DELUGASH_REPEAT = 13,   /* unprotect: accepted before, less than the stream's window behind */
+    DELUGASH_OLD = 12,      /* unprotect: 64 or more behind the highest packet accepted, or an index below 0 */
+    DELUGASH_REPEAT = 13,   /* unprotect: accepted before */
     DELUGASH_TAG = 14,      /* unprotect: the authentication tag is wrong */
     DELUGASH_KEYS = 15,     /* make: key not 16 bytes or salt not 14, with GCM 12; add: the session is not made */
     DELUGASH_POLICY = 16,   /* make: policy above 3, with GCM above 2 */
     DELUGASH_TWICE = 17,    /* add: this SSRC is in the session already, either way */
     DELUGASH_FULL = 18,     /* add: 32 streams already */
     DELUGASH_ABSENT = 19,   /* find: no such element */
-    DELUGASH_WINDOW = 21,   /* add, receiving: the window is not 64 to 1,024 in steps of 64; before _TWICE */
     DELUGASH_MEMORY = 100,  /* the session's memory is not DELUGASH_WORDS words */
     DELUGASH_WAY = 101,     /* add: the way is neither sending nor receiving */
     DELUGASH_SIZES = 102,   /* stretch: the key is not 16 bytes or the salt not 14 */
@@ -123,10 +118,9 @@ size_t delugash_size(void);
 uint32_t delugash_make(uint64_t *words, size_t word_count, const uint8_t *key, size_t key_length, const uint8_t *salt, size_t salt_length,
     uint64_t policy, const uint8_t *ids, size_t id_count, uint32_t suite);
 
-/* Adds a stream, sending or receiving. Its first packet has the rollover counter `rollover`: 0 for a stream that starts with the session. `window` is a receiving
- * stream's memory for late packets, 64 to 1,024 in steps of 64: a packet that arrives this far or more behind the highest one accepted is refused as old. It costs
- * nothing to take the largest. A sending stream has none: there the number is not looked at. Gives DELUGASH_OK, _MEMORY, _WAY, _KEYS, _WINDOW, _TWICE or _FULL. */
-uint32_t delugash_add(uint64_t *words, size_t word_count, uint32_t ssrc, uint32_t way, uint32_t rollover, uint64_t window);
+/* Adds a stream, sending or receiving. Its first packet has the rollover counter `rollover`: 0 for a stream that starts with the session.
+ * Gives DELUGASH_OK, _MEMORY, _WAY, _KEYS, _TWICE or _FULL. */
+uint32_t delugash_add(uint64_t *words, size_t word_count, uint32_t ssrc, uint32_t way, uint32_t rollover);
 
 /* Protects the packet in buf[0 .. n) in its place. The buffer needs room for up to DELUGASH_MAX_GROWTH bytes more. On DELUGASH_OK the packet to send is
  * buf[0 .. length), and the bytes after it are untouched. */

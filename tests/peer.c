@@ -152,7 +152,7 @@ static srtp_err_status_t open_peer(srtp_t *session, struct setting *with, uint32
 static void open_own(uint64_t *session, const struct setting *with, uint32_t ssrc, uint32_t way)
 {
     if (delugash_make(session, DELUGASH_WORDS, with->key, 16, with->key + 16, with->salt, with->policy, with->ids, with->count, with->suite) != DELUGASH_OK
-        || delugash_add(session, DELUGASH_WORDS, ssrc, way, 0, DELUGASH_MIN_WINDOW) != DELUGASH_OK) {
+        || delugash_add(session, DELUGASH_WORDS, ssrc, way, 0) != DELUGASH_OK) {
         fprintf(stderr, "the library refused a session or a stream, suite %u, policy %u\n", (unsigned)with->suite, with->policy);
         exit(1);
     }

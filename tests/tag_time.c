@@ -21,7 +21,7 @@ static void open_session(uint64_t *session, uint32_t way)
 {
     size_t salt_length = suite == DELUGASH_SUITE_GCM ? 12 : 14;
     if (delugash_make(session, DELUGASH_WORDS, key, sizeof key, salt, salt_length, DELUGASH_PLAIN, key, 0, suite) != DELUGASH_OK ||
-        delugash_add(session, DELUGASH_WORDS, SSRC, way, 0, DELUGASH_MIN_WINDOW) != DELUGASH_OK)
+        delugash_add(session, DELUGASH_WORDS, SSRC, way, 0) != DELUGASH_OK)
         exit(2);
 }
 

@@ -39,7 +39,7 @@ static int open_session(uint64_t *session, uint32_t way)
         return 0;
     if (delugash_make(session, DELUGASH_WORDS, key, sizeof key, salt, sizeof salt, DELUGASH_CRYPTEX, NULL, 0, DELUGASH_SUITE_CM_HMAC) != DELUGASH_OK)
         return 0;
-    return delugash_add(session, DELUGASH_WORDS, 0xcafebabe, way, 0, DELUGASH_MIN_WINDOW) == DELUGASH_OK;
+    return delugash_add(session, DELUGASH_WORDS, 0xcafebabe, way, 0) == DELUGASH_OK;
 }
 
 int main(void)

@@ -16,8 +16,8 @@ use std::io::{self, BufRead, Write};
 const KINDS: [(&str, &[Refusal]); 14] = [
     ("make", &[Keys, Policy]),
     ("make gcm", &[Keys, Policy]),
-    ("add", &[Keys, Twice, Full, Window]),
-    ("add gcm", &[Twice, Full, Window]),
+    ("add", &[Keys, Twice, Full]),
+    ("add gcm", &[Twice, Full]),
     (
         "protect",
         &[Length, Short, Version, Header, Profile, Element, Large, Room, Stream, Order, Worn],

@@ -6,18 +6,11 @@ use std::collections::BTreeSet;
 
 /// 2^48 - 1. Indices are signed and wide here, so that a guess can leave the range and be judged.
 pub const LAST: i128 = (1 << 48) - 1;
-/// The window of document 01: an index this far behind the highest, or further, is old.
-pub const WINDOW: u64 = 64;
-/// The longest window of change request 8. All are multiples of the shortest, which is document 01's.
-pub const LONGEST_WINDOW: u64 = 1_024;
+/// An index this far behind the highest, or further, is old.
+pub const WINDOW: i128 = 64;
 
 const SEQUENCES: i128 = 65_536;
 const HALF: i128 = 32_768;
-
-/// Whether a receiving record can have this window.
-pub fn is_window(number: u64) -> bool {
-    (WINDOW..=LONGEST_WINDOW).contains(&number) && number.is_multiple_of(WINDOW)
-}
 
 /// The index of a record's first packet, either way.
 pub fn first(rollover: u32, sequence: u16) -> i128 {
@@ -66,27 +59,23 @@ impl Ledger {
         self.taken.insert(index);
     }
 
-    pub fn holds(&self, index: i128) -> bool {
-        self.taken.contains(&index)
-    }
-
     /// WORN, OLD or REPEAT for an arriving index. With nothing held there is nothing to be behind.
-    pub fn judge(&self, index: i128, window: u64) -> Result<(), Refusal> {
+    pub fn judge(&self, index: i128) -> Result<(), Refusal> {
         refuse_if(index > LAST, Refusal::Worn)?;
         refuse_if(index < 0, Refusal::Old)?;
         let Some(highest) = self.highest() else {
             return Ok(());
         };
-        refuse_if(highest - index >= i128::from(window), Refusal::Old)?;
-        refuse_if(self.holds(index), Refusal::Repeat)
+        refuse_if(highest - index >= WINDOW, Refusal::Old)?;
+        refuse_if(self.taken.contains(&index), Refusal::Repeat)
     }
 
     /// The indices less than the window behind the highest, as distances below it, smallest first.
-    pub fn seen(&self, window: u64) -> Vec<i128> {
+    pub fn seen(&self) -> Vec<i128> {
         let Some(highest) = self.highest() else {
             return Vec::new();
         };
         let distances = self.taken.iter().rev().map(|index| highest - index);
-        distances.take_while(|distance| *distance < i128::from(window)).collect()
+        distances.filter(|distance| *distance < WINDOW).collect()
     }
 }

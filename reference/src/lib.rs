@@ -25,7 +25,6 @@ pub mod parts;
 pub mod script;
 pub mod stretch;
 pub mod suite_parts;
-pub mod window_parts;
 pub mod words;
 
 pub mod random;

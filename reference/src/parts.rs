@@ -1,7 +1,7 @@
 //! The parts of some answers that `reference count` tells apart. PROFILE on unprotect is one number
 //! for two conditions, under either suite; under the mask, what protect does depends on how the
 //! elements lie against the keystream's blocks; and a stretch depends on where it lies in the
-//! keystream. `suite_parts` has those of change request 3, `window_parts` those of change request 8.
+//! keystream. `suite_parts` has those of change request 3.
 
 use crate::aes::BLOCK;
 use crate::elements;
@@ -14,7 +14,6 @@ use crate::session::Session;
 use crate::stretch::Stretch;
 use crate::suite::Suite;
 use crate::suite_parts::{Before, SUITES};
-use crate::window_parts;
 use crate::words;
 use std::collections::BTreeMap;
 use std::ops::Range;
@@ -62,7 +61,7 @@ pub const STRETCHES: [Part; 6] = [
 /// In the order of the table.
 pub fn all() -> impl Iterator<Item = Part> {
     let required = REQUIRED.into_iter().chain(REQUIRED_GCM);
-    MASKS.into_iter().chain(required).chain(STRETCHES).chain(SUITES).chain(window_parts::all())
+    MASKS.into_iter().chain(required).chain(STRETCHES).chain(SUITES)
 }
 
 /// How often each part came.
@@ -87,7 +86,6 @@ impl Parts {
         let words = &words[1..];
         let mut parts = self.parts(desk, words, kind, number).unwrap_or_default();
         parts.extend(self.before.parts(desk, (kind, number), words, answer).unwrap_or_default());
-        parts.extend(window_parts::parts(desk, kind, words).unwrap_or_default());
         for part in parts.into_iter().filter(|part| part.0 == kind && part.1 == number) {
             *self.counts.entry(part).or_default() += 1;
         }

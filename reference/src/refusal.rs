@@ -1,5 +1,4 @@
-//! The refusals and their numbers, after document 01, "Numbers given back", and change request 8. Number
-//! 20 belongs to a change request that is not here.
+//! The refusals and their numbers, after document 01, "Numbers given back".
 
 #[derive(Clone, Copy, Debug, PartialEq, Eq)]
 pub enum Refusal {
@@ -22,7 +21,6 @@ pub enum Refusal {
     Twice = 17,
     Full = 18,
     Absent = 19,
-    Window = 21,
 }
 
 impl Refusal {
@@ -30,7 +28,7 @@ impl Refusal {
         self as u64
     }
 
-    /// The name in document 01's table, or in the change request that brought it.
+    /// The name in document 01's table.
     pub fn name(self) -> &'static str {
         match self {
             Refusal::Length => "LENGTH",
@@ -52,7 +50,6 @@ impl Refusal {
             Refusal::Twice => "TWICE",
             Refusal::Full => "FULL",
             Refusal::Absent => "ABSENT",
-            Refusal::Window => "WINDOW",
         }
     }
 }

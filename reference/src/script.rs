@@ -56,7 +56,7 @@ impl Desk {
                 return Some(line.to_vec());
             }
             (b"make", words) => self.make(words)?,
-            (b"add", words) => self.add(words)?,
+            (b"add", [session, ssrc, way, rollover]) => self.add(session, ssrc, way, rollover)?,
             (b"protect", [session, n, buffer]) => self.protect(session, n, buffer)?,
             (b"unprotect", [session, n, buffer]) => self.unprotect(session, n, buffer)?,
             (b"find", [id, packet]) => find(id, packet)?,
@@ -83,14 +83,11 @@ impl Desk {
         Some(answer)
     }
 
-    fn add(&mut self, words: &[&[u8]]) -> Option<String> {
-        let [session, ssrc, way, rollover, window @ ..] = words else {
-            return None;
-        };
+    fn add(&mut self, session: &[u8], ssrc: &[u8], way: &[u8], rollover: &[u8]) -> Option<String> {
         let session = words::session(session)?;
         let (ssrc, way) = (words::ssrc(ssrc)?, words::way(way)?);
-        let (rollover, window) = (words::rollover(rollover)?, words::window(window)?);
-        let result = self.sessions[session].add_with_window(ssrc, way, rollover, window);
+        let rollover = words::rollover(rollover)?;
+        let result = self.sessions[session].add(ssrc, way, rollover);
         Some(number(&result).to_string())
     }
 
@@ -134,10 +131,10 @@ fn record_text(record: &Record) -> String {
 }
 
 fn seen_text(record: &Record) -> String {
-    if record.way == Way::Sending || record.ledger.highest().is_none() {
+    let distances = record.ledger.seen();
+    if record.way == Way::Sending || distances.is_empty() {
         return "-".to_string();
     }
-    let distances = record.ledger.seen(record.window);
     let distances: Vec<String> = distances.iter().map(|distance| distance.to_string()).collect();
     distances.join(",")
 }
@@ -152,11 +149,11 @@ fn find(id: &[u8], packet: &[u8]) -> Option<String> {
     Some(format!("{number} {begin} {}", hex::write(&packet[part])))
 }
 
-/// `NO INDEX DISTANCE`, with the window of document 01. The distance is told with a refusal too.
+/// `NO INDEX DISTANCE`. The distance is told with a refusal too.
 fn guess(highest: &[u8], sequence: &[u8]) -> Option<String> {
     let (highest, sequence) = (words::highest(highest)?, words::sequence(sequence)?);
     let index = index::guess(highest, sequence);
-    let result = Ledger::holding(highest).judge(index, index::WINDOW);
+    let result = Ledger::holding(highest).judge(index);
     let told = if result.is_ok() { index } else { 0 };
     Some(format!("{} {told} {}", number(&result), index - highest))
 }

@@ -1,5 +1,5 @@
 //! Sessions and their calls (make, add, protect, unprotect), after document 01, "The library's
-//! work" and "Numbers given back". Every call but add checks in the order of the refusals' numbers.
+//! work" and "Numbers given back". Every call checks in the order of the refusals' numbers.
 
 use crate::elements::{self, IdSet};
 use crate::header::{self, Header};
@@ -23,9 +23,6 @@ pub struct Record {
     pub ssrc: u32,
     pub way: Way,
     pub rollover: u32,
-    /// How far behind the highest a packet is old. A sending record keeps what it was told and never
-    /// looks at it.
-    pub window: u64,
     pub ledger: Ledger,
 }
 
@@ -80,24 +77,11 @@ impl Session {
         &self.records
     }
 
-    /// Adds a stream with the window of document 01.
     pub fn add(&mut self, ssrc: u32, way: Way, rollover: u32) -> Result<(), Refusal> {
-        self.add_with_window(ssrc, way, rollover, index::WINDOW)
-    }
-
-    /// The one call that does not check in the order of the numbers: WINDOW, 21, comes before TWICE.
-    pub fn add_with_window(
-        &mut self,
-        ssrc: u32,
-        way: Way,
-        rollover: u32,
-        window: u64,
-    ) -> Result<(), Refusal> {
         refuse_if(!self.is_made(), Refusal::Keys)?;
-        refuse_if(way == Way::Receiving && !index::is_window(window), Refusal::Window)?;
         refuse_if(self.records.iter().any(|record| record.ssrc == ssrc), Refusal::Twice)?;
         refuse_if(self.records.len() >= MOST_RECORDS, Refusal::Full)?;
-        self.records.push(Record { ssrc, way, rollover, window, ledger: Ledger::default() });
+        self.records.push(Record { ssrc, way, rollover, ledger: Ledger::default() });
         Ok(())
     }
 
@@ -198,6 +182,6 @@ fn received_index(record: &Record, sequence: u16) -> Result<i128, Refusal> {
         None => index::first(record.rollover, sequence),
         Some(highest) => index::guess(highest, sequence),
     };
-    record.ledger.judge(index, record.window)?;
+    record.ledger.judge(index)?;
     Ok(index)
 }

@@ -2,7 +2,6 @@
 //! be read; the script then writes `?`.
 
 use crate::hex;
-use crate::index;
 use crate::session::Way;
 use crate::suite::Suite;
 
@@ -78,16 +77,6 @@ pub fn suite(words: &[&[u8]]) -> Option<Suite> {
     match words {
         [] => Some(Suite::CounterMode),
         [b"gcm"] => Some(Suite::Gcm),
-        _ => None,
-    }
-}
-
-/// What may follow ROLLOVER on a line `add`: nothing, or one number for the window, which the call
-/// judges.
-pub fn window(words: &[&[u8]]) -> Option<u64> {
-    match words {
-        [] => Some(index::WINDOW),
-        [window] => number(window),
         _ => None,
     }
 }

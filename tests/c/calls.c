@@ -128,7 +128,7 @@ static uint64_t *session_of(const suite *of, uint64_t policy, uint32_t way)
 {
     uint64_t *s = memory();
     CHECK(delugash_make(s, delugash_size(), of->key, 16, of->salt, of->salt_length, policy, NULL, 0, of->number) == DELUGASH_OK);
-    CHECK(delugash_add(s, delugash_size(), 0xcafebabe, way, 0, DELUGASH_MIN_WINDOW) == DELUGASH_OK);
+    CHECK(delugash_add(s, delugash_size(), 0xcafebabe, way, 0) == DELUGASH_OK);
     return s;
 }
 
@@ -183,8 +183,8 @@ static void refusals_leave_everything(void)
     CHECK(delugash_unprotect(s, delugash_size(), buf, sizeof buf, SIZE_MAX).number == DELUGASH_LENGTH);
     CHECK(delugash_unprotect(s, delugash_size(), buf, sizeof buf, 21).number == DELUGASH_SHORT);
     CHECK(delugash_protect(s, delugash_size(), buf, sizeof buf, 36).number == DELUGASH_PROFILE);
-    CHECK(delugash_add(s, delugash_size(), 0xcafebabe, DELUGASH_SENDING, 0, DELUGASH_MIN_WINDOW) == DELUGASH_TWICE);
-    CHECK(delugash_add(s, delugash_size(), 1, 2, 0, DELUGASH_MIN_WINDOW) == DELUGASH_WAY);
+    CHECK(delugash_add(s, delugash_size(), 0xcafebabe, DELUGASH_SENDING, 0) == DELUGASH_TWICE);
+    CHECK(delugash_add(s, delugash_size(), 1, 2, 0) == DELUGASH_WAY);
     CHECK(memcmp(buf, forged, sizeof buf) == 0);
     CHECK(memcmp(s, before, delugash_size() * sizeof *s) == 0);
     free(s);
@@ -230,7 +230,7 @@ static void wrong_memory(void)
     memcpy(buf, plain, sizeof plain);
     CHECK(delugash_protect(s, delugash_size() - 1, buf, sizeof buf, 36).number == DELUGASH_MEMORY);
     CHECK(delugash_unprotect(few, 1, buf, sizeof buf, 46).number == DELUGASH_MEMORY);
-    CHECK(delugash_add(few, 0, 1, DELUGASH_SENDING, 0, DELUGASH_MIN_WINDOW) == DELUGASH_MEMORY);
+    CHECK(delugash_add(few, 0, 1, DELUGASH_SENDING, 0) == DELUGASH_MEMORY);
     CHECK(delugash_make(few, 1, key, sizeof key, salt, sizeof salt, 0, key, 0, DELUGASH_SUITE_CM_HMAC) == DELUGASH_MEMORY);
     CHECK(delugash_make(few, 1, gcm_key, sizeof gcm_key, gcm_salt, sizeof gcm_salt, 0, key, 0, DELUGASH_SUITE_GCM) == DELUGASH_MEMORY);
     CHECK(delugash_make(few, 1, key, sizeof key, salt, sizeof salt, 0, key, 0, 2) == DELUGASH_MEMORY);
@@ -243,116 +243,14 @@ static void making(void)
     uint64_t *s = session(0, DELUGASH_SENDING);
     CHECK(delugash_make(s, delugash_size(), key, 15, salt, sizeof salt, 0, key, 0, DELUGASH_SUITE_CM_HMAC) == DELUGASH_KEYS);
     /* a refused making leaves the unmade session, which takes no stream */
-    CHECK(delugash_add(s, delugash_size(), 5, DELUGASH_SENDING, 0, DELUGASH_MIN_WINDOW) == DELUGASH_KEYS);
+    CHECK(delugash_add(s, delugash_size(), 5, DELUGASH_SENDING, 0) == DELUGASH_KEYS);
     CHECK(delugash_make(s, delugash_size(), key, sizeof key, salt, sizeof salt, 4, key, 0, DELUGASH_SUITE_CM_HMAC) == DELUGASH_POLICY);
     CHECK(delugash_make(s, delugash_size(), key, sizeof key, salt, 13, 9, key, 0, DELUGASH_SUITE_CM_HMAC) == DELUGASH_KEYS);
     CHECK(delugash_make(s, delugash_size(), key, sizeof key, salt, sizeof salt, 3, key, 16, DELUGASH_SUITE_CM_HMAC) == DELUGASH_OK);
     for (uint32_t i = 0; i < 32; i++)
-        CHECK(delugash_add(s, delugash_size(), i, i % 2, i, DELUGASH_MIN_WINDOW) == DELUGASH_OK);
-    CHECK(delugash_add(s, delugash_size(), 32, DELUGASH_SENDING, 0, DELUGASH_MIN_WINDOW) == DELUGASH_FULL);
+        CHECK(delugash_add(s, delugash_size(), i, i % 2, i) == DELUGASH_OK);
+    CHECK(delugash_add(s, delugash_size(), 32, DELUGASH_SENDING, 0) == DELUGASH_FULL);
     free(s);
-}
-
-/* 64 to 1,024 in steps of 64, and nothing else, where a stream is received; anything where it is sent, with the same words afterwards. */
-static void windows_of_an_add(void)
-{
-    static const uint64_t beyond[] = {1088, 65536, 65536 + 64, (uint64_t)1 << 32, ((uint64_t)1 << 32) + 64, (uint64_t)1 << 63, UINT64_MAX - 63, UINT64_MAX};
-    uint64_t *s = session(0, DELUGASH_SENDING), *before = memory(), *sending = memory();
-    size_t bytes = delugash_size() * sizeof *s;
-    memcpy(before, s, bytes);
-    CHECK(delugash_add(s, delugash_size(), 7, DELUGASH_SENDING, 9, 64) == DELUGASH_OK);
-    memcpy(sending, s, bytes);
-    for (size_t i = 0; i < 2200 + sizeof beyond / sizeof *beyond; i++) {
-        uint64_t window = i < 2200 ? i : beyond[i - 2200];
-        int right = window >= 64 && window <= 1024 && window % 64 == 0;
-        memcpy(s, before, bytes);
-        CHECK(delugash_add(s, delugash_size(), 7, DELUGASH_RECEIVING, 9, window) == (right ? DELUGASH_OK : DELUGASH_WINDOW));
-        CHECK(right == (memcmp(s, before, bytes) != 0));
-        memcpy(s, before, bytes);
-        CHECK(delugash_add(s, delugash_size(), 7, DELUGASH_SENDING, 9, window) == DELUGASH_OK && memcmp(s, sending, bytes) == 0);
-    }
-    free(s);
-    free(before);
-    free(sending);
-}
-
-/* The border's codes, KEYS, WINDOW, TWICE, FULL: each add could be refused with all that come after it. */
-static void order_of_an_add(void)
-{
-    uint64_t *s = memory();
-    size_t words = delugash_size();
-    CHECK(delugash_add(s, words - 1, 5, 2, 0, 63) == DELUGASH_MEMORY);
-    CHECK(delugash_add(s, words, 5, 2, 0, 63) == DELUGASH_WAY);
-    CHECK(delugash_add(s, words, 5, DELUGASH_RECEIVING, 0, 63) == DELUGASH_KEYS);
-    CHECK(delugash_make(s, words, key, sizeof key, salt, sizeof salt, 0, NULL, 0, DELUGASH_SUITE_CM_HMAC) == DELUGASH_OK);
-    for (uint32_t i = 0; i < 32; i++)
-        CHECK(delugash_add(s, words, i, DELUGASH_RECEIVING, 0, 1024) == DELUGASH_OK);
-    CHECK(delugash_add(s, words, 5, 2, 0, 63) == DELUGASH_WAY);
-    CHECK(delugash_add(s, words, 5, DELUGASH_RECEIVING, 0, 63) == DELUGASH_WINDOW);
-    CHECK(delugash_add(s, words, 5, DELUGASH_RECEIVING, 0, 64) == DELUGASH_TWICE);
-    CHECK(delugash_add(s, words, 5, DELUGASH_SENDING, 0, 63) == DELUGASH_TWICE);
-    CHECK(delugash_add(s, words, 32, DELUGASH_RECEIVING, 0, 0) == DELUGASH_WINDOW);
-    CHECK(delugash_add(s, words, 32, DELUGASH_RECEIVING, 0, 64) == DELUGASH_FULL);
-    CHECK(delugash_add(s, words, 32, DELUGASH_SENDING, 0, 0) == DELUGASH_FULL);
-    free(s);
-}
-
-/* A packet arrives as it was sent. */
-static uint32_t arrives(uint64_t *receiver, uint8_t sent[24])
-{
-    uint8_t buf[24];
-    memcpy(buf, sent, sizeof buf);
-    return delugash_unprotect(receiver, delugash_size(), buf, sizeof buf, sizeof buf).number;
-}
-
-/* Sixteen streams in one session, each with its own window. 2,000 packets of each were sent; the first to arrive is number `high`, the highest. */
-static void late_packets(uint16_t high)
-{
-    enum { SENT = 2000 };
-    static uint8_t sent[SENT][24];
-    uint64_t *receiver = memory();
-    size_t words = delugash_size();
-    CHECK(delugash_make(receiver, words, key, sizeof key, salt, sizeof salt, 0, NULL, 0, DELUGASH_SUITE_CM_HMAC) == DELUGASH_OK);
-    for (uint32_t i = 0; i < 16; i++)
-        CHECK(delugash_add(receiver, words, i, DELUGASH_RECEIVING, 0, 64 * (16 - i)) == DELUGASH_OK);
-    for (uint32_t i = 0; i < 16; i++) {
-        unsigned window = 64 * (16 - i);
-        uint64_t *sender = memory();
-        CHECK(delugash_make(sender, words, key, sizeof key, salt, sizeof salt, 0, NULL, 0, DELUGASH_SUITE_CM_HMAC) == DELUGASH_OK);
-        CHECK(delugash_add(sender, words, i, DELUGASH_SENDING, 0, 0) == DELUGASH_OK);
-        for (unsigned k = 0; k < SENT; k++) {
-            memset(sent[k], 0, sizeof sent[k]);
-            sent[k][0] = 0x80;
-            sent[k][2] = (uint8_t)(k >> 8);
-            sent[k][3] = (uint8_t)k;
-            sent[k][11] = (uint8_t)i;
-            CHECK(delugash_protect(sender, words, sent[k], 24, 14).length == 24);
-        }
-        CHECK(arrives(receiver, sent[high]) == DELUGASH_OK);
-        /* a repeated add is refused, and what it says of the window counts for nothing */
-        CHECK(delugash_add(receiver, words, i, DELUGASH_RECEIVING, 0, i == 0 ? 64 : 1024) == DELUGASH_TWICE);
-        CHECK(arrives(receiver, sent[high - window]) == DELUGASH_OLD);
-        CHECK(arrives(receiver, sent[high - window - 1]) == DELUGASH_OLD);
-        /* from the furthest on, every one is taken once */
-        for (unsigned behind = window - 1; behind > 0; behind--)
-            CHECK(arrives(receiver, sent[high - behind]) == DELUGASH_OK);
-        for (unsigned behind = 0; behind < window; behind++)
-            CHECK(arrives(receiver, sent[high - behind]) == DELUGASH_REPEAT);
-        /* one further: what was the furthest is old now, and the rest repeated still */
-        CHECK(arrives(receiver, sent[high + 1]) == DELUGASH_OK);
-        CHECK(arrives(receiver, sent[high - window + 1]) == DELUGASH_OLD);
-        CHECK(arrives(receiver, sent[high - window + 2]) == DELUGASH_REPEAT);
-        free(sender);
-    }
-    free(receiver);
-}
-
-/* With the highest at both ends of a block of 64, and within it. */
-static void late_packets_are_taken_once(void)
-{
-    late_packets(1088);
-    late_packets(1151);
-    late_packets(1120);
 }
 
 /* Every length of key and salt about the right ones, and every policy, with both suites, each in the memory of a made session. KEYS comes before POLICY;
@@ -373,7 +271,7 @@ static void making_with_both_suites(void)
                     CHECK(delugash_make(s, delugash_size(), key, 16, salt, 14, 0, NULL, 0, DELUGASH_SUITE_CM_HMAC) == DELUGASH_OK);
                     CHECK(delugash_make(s, delugash_size(), bytes, keys[k], bytes, salts[l], policies[p], NULL, 0, suites[i].number) == expected);
                     CHECK((memcmp(s, unmade, delugash_size() * sizeof *s) == 0) == (expected != DELUGASH_OK));
-                    CHECK(delugash_add(s, delugash_size(), 5, DELUGASH_SENDING, 0, DELUGASH_MIN_WINDOW) == (expected == DELUGASH_OK ? DELUGASH_OK : DELUGASH_KEYS));
+                    CHECK(delugash_add(s, delugash_size(), 5, DELUGASH_SENDING, 0) == (expected == DELUGASH_OK ? DELUGASH_OK : DELUGASH_KEYS));
                 }
     free(s);
     free(unmade);
@@ -626,7 +524,7 @@ static void rollover_with_gcm(void)
             uint8_t buf[44];
             for (int r = 0; r < 2; r++) {
                 CHECK(delugash_make(r ? receiver : sender, delugash_size(), gcm_key, 16, gcm_salt, 12, 0, NULL, 0, DELUGASH_SUITE_GCM) == DELUGASH_OK);
-                CHECK(delugash_add(r ? receiver : sender, delugash_size(), 0xcafebabe, r ? DELUGASH_RECEIVING : DELUGASH_SENDING, rollovers[r ? k : i], DELUGASH_MIN_WINDOW)
+                CHECK(delugash_add(r ? receiver : sender, delugash_size(), 0xcafebabe, r ? DELUGASH_RECEIVING : DELUGASH_SENDING, rollovers[r ? k : i])
                     == DELUGASH_OK);
             }
             memcpy(buf, gcm_bare, sizeof gcm_bare);
@@ -655,7 +553,7 @@ static void unmade_is_of_the_first_suite(void)
         CHECK(delugash_protect(s, delugash_size(), buf, 4096, 2038).number == DELUGASH_STREAM);
         CHECK(delugash_protect(s, delugash_size(), buf, 2047, 2038).number == DELUGASH_ROOM);
         CHECK(delugash_protect(s, delugash_size(), buf, 4096, 2039).number == DELUGASH_LARGE);
-        CHECK(delugash_add(s, delugash_size(), 5, DELUGASH_SENDING, 0, DELUGASH_MIN_WINDOW) == DELUGASH_KEYS);
+        CHECK(delugash_add(s, delugash_size(), 5, DELUGASH_SENDING, 0) == DELUGASH_KEYS);
         free(s);
         free(buf);
     }
@@ -676,7 +574,7 @@ static void no_memory(void)
         CHECK(delugash_unprotect(p, 0, p, 0, 0).number == DELUGASH_MEMORY);
         CHECK(delugash_make(p, 0, p, 0, p, 0, 0, p, 0, DELUGASH_SUITE_GCM) == DELUGASH_MEMORY);
         CHECK(delugash_make(s, delugash_size(), p, 0, p, 0, 0, p, 0, 2) == DELUGASH_SUITE);
-        CHECK(delugash_add(p, 0, 1, DELUGASH_SENDING, 0, DELUGASH_MIN_WINDOW) == DELUGASH_MEMORY);
+        CHECK(delugash_add(p, 0, 1, DELUGASH_SENDING, 0) == DELUGASH_MEMORY);
         CHECK(delugash_find(p, 0, 1).number == DELUGASH_SHORT);
         CHECK(delugash_stretch(p, 0, p, 0, 1, 0, 0, p, 0) == DELUGASH_SIZES);
         CHECK(delugash_stretch(key, sizeof key, salt, sizeof salt, 1, 0, 7, p, 0) == DELUGASH_OK);
@@ -843,9 +741,8 @@ static void any_memory(void)
         results += a.number == DELUGASH_OK;
         indices += a.number >= DELUGASH_ORDER;
         wrong_calls += a.number > DELUGASH_TAG || (a.number != DELUGASH_OK && changed);
-        uint32_t added = delugash_add(s, words, (uint32_t)next(), (uint32_t)(next() % 2), (uint32_t)next(), next() % 20 * 64);
-        wrong_adds += added != DELUGASH_OK && added != DELUGASH_KEYS && added != DELUGASH_TWICE && added != DELUGASH_FULL &&
-            added != DELUGASH_WINDOW;
+        uint32_t added = delugash_add(s, words, (uint32_t)next(), (uint32_t)(next() % 2), (uint32_t)next());
+        wrong_adds += added != DELUGASH_OK && added != DELUGASH_KEYS && added != DELUGASH_TWICE && added != DELUGASH_FULL;
         free(buf);
     }
     CHECK(wrong_calls == 0 && wrong_adds == 0);
@@ -866,9 +763,6 @@ int main(void)
     required_means_required();
     wrong_memory();
     making();
-    windows_of_an_add();
-    order_of_an_add();
-    late_packets_are_taken_once();
     making_with_both_suites();
     no_such_suite();
     published_gcm_packets_both_ways();

@@ -70,7 +70,7 @@ static void open_session(uint64_t *session, uint64_t policy, uint32_t way)
     size_t salt_length = suite == DELUGASH_SUITE_GCM ? 12 : 14;
     check(delugash_make(session, DELUGASH_WORDS, key, sizeof key, salt, salt_length, policy, ids, sizeof ids, suite) == DELUGASH_OK, "make refused");
     for (uint32_t i = 0; i < STREAMS; i++)
-        check(delugash_add(session, DELUGASH_WORDS, FIRST_SSRC + i, way, 0, DELUGASH_MIN_WINDOW) == DELUGASH_OK, "add refused");
+        check(delugash_add(session, DELUGASH_WORDS, FIRST_SSRC + i, way, 0) == DELUGASH_OK, "add refused");
 }
 
 static void put16(uint8_t *at, size_t number)

@@ -27,7 +27,7 @@ uint32_t ledger_answer(const ledger *l, uint16_t sequence, uint64_t index)
         return DELUGASH_WORN;
     if (i < 0)
         return DELUGASH_OLD;
-    if (l->started && (int64_t)l->highest - i >= (int64_t)l->window)
+    if (l->started && (int64_t)l->highest - i >= 64)
         return DELUGASH_OLD;
     if (is_held(l, (uint64_t)i))
         return DELUGASH_REPEAT;

@@ -9,8 +9,6 @@ enum { LEDGER_SPAN = 1 << 21 };
 
 typedef struct {
     uint32_t rollover;
-    /* W: what is this far or more behind the highest is old. */
-    uint64_t window;
     int started;
     uint64_t first;
     uint64_t highest;

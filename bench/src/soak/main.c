@@ -99,8 +99,8 @@ static int print_summary(const pair *p, uint64_t packets, double start, long fir
     print_counts("Protect", "sent", t->sent);
     print_counts("Arrivals as sent", "given back", t->arrived);
     print_counts("Forged", "ACCEPTED", t->forged);
-    printf("Given back late, after a higher index: %llu, of these %llu 64 or more behind. Lost on the way at first: %llu. Sequence numbers wrapped: %llu times.\n",
-           (unsigned long long)t->late, (unsigned long long)t->far, (unsigned long long)t->lost, (unsigned long long)t->wraps);
+    printf("Given back late, after a higher index: %llu. Lost on the way at first: %llu. Sequence numbers wrapped: %llu times.\n",
+           (unsigned long long)t->late, (unsigned long long)t->lost, (unsigned long long)t->wraps);
     printf("Every answer was the model's: nothing was given back twice or refused wrongly, and no forged packet was accepted.\n");
     printf("VmRSS: %ld KB at first, %ld KB at last\n", first, last);
     if (last - first <= SLACK_KB)

@@ -6,14 +6,14 @@
 
 enum { LONGEST_STEP = 32767, LONG_STEP = 4096 };
 
-/* Mostly the next sequence number; gaps, long gaps (few of them in a steady stream), the longest that is allowed, and now and then one that is not. */
+/* Mostly the next sequence number; gaps, long gaps, the longest that is allowed, and now and then one that is not. */
 static uint64_t choose_step(dice *d, const stream *s)
 {
     uint64_t chance = below(d, 10000);
     /* Near the end of what the ledger can hold, only small steps. */
     if (chance < 9000 || s->last - s->first > LEDGER_SPAN - LEDGER_SPAN / 4)
         return 1;
-    if (chance < (s->steady ? 9970 : 9800))
+    if (chance < 9800)
         return 2 + below(d, 9);
     if (chance < 9978)
         return 11 + below(d, LONG_STEP - 10);
@@ -85,7 +85,6 @@ static void arrive(pair *p, stream *s, const sent *packet)
         return;
     check_result(p, s, packet->index, &b, a.length, packet->plain, packet->plain_length, packet->plain_length);
     p->counts.late += packet->index < s->given_back.highest;
-    p->counts.far += packet->index + 64 <= s->given_back.highest;
     ledger_take(&s->given_back, packet->index);
 }
 
@@ -123,27 +122,10 @@ static void forge(pair *p, stream *s, const sent *packet)
     p->counts.forged[a.number]++;
 }
 
-/* The first packet kept whose index is this or more; the last one where there is none. */
-static const sent *first_from(const stream *s, uint64_t kept, uint64_t index)
-{
-    uint64_t low = s->count - kept, high = s->count - 1;
-    while (low < high) {
-        uint64_t middle = (low + high) / 2;
-        if (s->history[middle % HISTORY].index < index)
-            low = middle + 1;
-        else
-            high = middle;
-    }
-    return &s->history[low % HISTORY];
-}
-
-/* One of the last packets, more often one of the very last, or one at the edge of the window: W, a little more or less behind the highest. */
+/* One of the last packets, more often one of the very last. */
 static const sent *any_sent(dice *d, const stream *s)
 {
     uint64_t kept = s->count < HISTORY ? s->count : HISTORY;
-    uint64_t edge = s->given_back.highest + 2 - s->given_back.window;
-    if (one_in(d, 3) && s->given_back.highest >= s->given_back.window + 2)
-        return first_from(s, kept, edge - below(d, 5));
     uint64_t back = below(d, one_in(d, 2) && kept > 16 ? 16 : kept);
     return &s->history[(s->count - 1 - back) % HISTORY];
 }

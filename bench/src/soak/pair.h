@@ -6,7 +6,7 @@
 #include "dice.h"
 #include "ledger.h"
 
-enum { STREAMS = 32, HISTORY = 1280, ROOM = DELUGASH_MAX_PACKET + 64, NUMBERS = 20 };
+enum { STREAMS = 32, HISTORY = 128, ROOM = DELUGASH_MAX_PACKET + 64, NUMBERS = 20 };
 
 /* A packet that was sent: as it was, and its bytes on the wire. */
 typedef struct {
@@ -20,8 +20,6 @@ typedef struct {
 typedef struct {
     uint32_t ssrc;
     uint32_t rollover;
-    /* Sends with few long gaps, so that its window is full of packets. */
-    int steady;
     /* Packets sent, the first and the last index, and the last step. */
     uint64_t count;
     uint64_t first;
@@ -37,9 +35,8 @@ typedef struct {
     uint64_t sent[NUMBERS];
     uint64_t arrived[NUMBERS];
     uint64_t forged[NUMBERS];
-    /* Given back although a later packet had been before, and of these 64 or more behind; lost on the way at first; sequence numbers that went back to 0. */
+    /* Given back although a later packet had been before; lost on the way at first; sequence numbers that went back to 0. */
     uint64_t late;
-    uint64_t far;
     uint64_t lost;
     uint64_t wraps;
 } tally;

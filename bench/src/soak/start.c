@@ -54,10 +54,7 @@ void start_run(pair *p, uint64_t run)
         stream *s = &p->streams[i];
         s->ssrc = ssrc + i;
         s->rollover = s->given_back.rollover = starting_rollover(&p->d, i);
-        /* Each window for two streams, one of them steady. A sender's window is not looked at. */
-        s->steady = i % 2;
-        s->given_back.window = DELUGASH_MIN_WINDOW * (1 + i / 2 % 16);
-        need(delugash_add(p->sender, DELUGASH_WORDS, s->ssrc, DELUGASH_SENDING, s->rollover, roll(&p->d)), "delugash_add");
-        need(delugash_add(p->receiver, DELUGASH_WORDS, s->ssrc, DELUGASH_RECEIVING, s->rollover, s->given_back.window), "delugash_add");
+        need(delugash_add(p->sender, DELUGASH_WORDS, s->ssrc, DELUGASH_SENDING, s->rollover), "delugash_add");
+        need(delugash_add(p->receiver, DELUGASH_WORDS, s->ssrc, DELUGASH_RECEIVING, s->rollover), "delugash_add");
     }
 }

@@ -12,7 +12,7 @@ static void *open_session(const engine *self, mode m, way w, unsigned streams)
     if (delugash_make(session, words, master_key, KEY_LENGTH, master_salt, salt_of(m), m.policy, listed_ids, LISTED, m.suite) != 0)
         give_up("no session", self->name);
     for (unsigned i = 0; i < streams; i++)
-        if (delugash_add(session, words, FIRST_SSRC + i, w, 0, DELUGASH_MIN_WINDOW) != 0)
+        if (delugash_add(session, words, FIRST_SSRC + i, w, 0) != 0)
             give_up("no stream", self->name);
     return session;
 }

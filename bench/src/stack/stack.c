@@ -44,12 +44,7 @@ static void make(void)
 
 static void add(void)
 {
-    at.number = delugash_add(at.sender, DELUGASH_WORDS, SSRC, DELUGASH_SENDING, 0, 0);
-}
-
-static void add_receiver(void)
-{
-    at.number = delugash_add(at.receiver, DELUGASH_WORDS, SSRC, DELUGASH_RECEIVING, 0, DELUGASH_MAX_WINDOW);
+    at.number = delugash_add(at.sender, DELUGASH_WORDS, SSRC, DELUGASH_SENDING, 0);
 }
 
 static void protect(void)
@@ -171,9 +166,8 @@ int main(void)
             protects = unprotects = forged = repeated = finds = stretches = 0;
             measure(make, DELUGASH_OK, &makes);
             measure(add, DELUGASH_OK, &adds);
-            if (make_session(at.receiver) != DELUGASH_OK)
+            if (make_session(at.receiver) != DELUGASH_OK || delugash_add(at.receiver, DELUGASH_WORDS, SSRC, DELUGASH_RECEIVING, 0) != DELUGASH_OK)
                 return 1;
-            measure(add_receiver, DELUGASH_OK, &adds);
             packets();
             printf("%u %u %zu %zu %zu %zu %zu %zu %zu %zu\n", (unsigned)at.suite, (unsigned)at.policy, protects, unprotects, forged, repeated, makes, adds,
                    finds, stretches);

@@ -22,8 +22,8 @@ fn main() -> Result<(), Error> {
     let salt = *b"\x0e\xc6\x75\xad\x49\x8a\xfe\xeb\xb6\x96\x0b\x3a\xab\xe6";
     let mut sender = Session::new(&key, &salt, Policy::Cryptex, &[], Suite::CmHmac)?;
     let mut receiver = Session::new(&key, &salt, Policy::Cryptex, &[], Suite::CmHmac)?;
-    sender.add(0xcafebabe, Way::Sending, 0, 0)?;
-    receiver.add(0xcafebabe, Way::Receiving, 0, delugash::MIN_WINDOW)?;
+    sender.add(0xcafebabe, Way::Sending, 0)?;
+    receiver.add(0xcafebabe, Way::Receiving, 0)?;
 
     let packet = *b"\x90\x0f\x12\x35\xde\xca\xfb\xad\xca\xfe\xba\xbe\xbe\xde\0\x01\x51\0\x02\0\xab\xab\xab\xab\xab\xab\xab\xab\xab\xab\xab\xab\xab\xab\xab\xab";
     let mut buf = [0u8; 36 + delugash::ROOM];

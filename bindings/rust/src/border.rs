@@ -30,7 +30,7 @@ extern "C" {
         ids_length: usize,
         suite: u32,
     ) -> u32;
-    pub fn delugash_add(session: *mut u64, words: usize, ssrc: u32, way: u32, rollover: u32, window: u64) -> u32;
+    pub fn delugash_add(session: *mut u64, words: usize, ssrc: u32, way: u32, rollover: u32) -> u32;
     pub fn delugash_protect(session: *mut u64, words: usize, buf: *mut u8, length: usize, n: usize) -> Answer;
     pub fn delugash_unprotect(session: *mut u64, words: usize, buf: *mut u8, length: usize, n: usize) -> Answer;
     pub fn delugash_find(packet: *const u8, length: usize, id: u32) -> Part;

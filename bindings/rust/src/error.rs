@@ -1,9 +1,8 @@
-//! The refusals of document 01, to which document 02 adds conditions and numbers, as an error.
+//! The refusals of document 01, to which document 02 adds conditions, as an error.
 
 use std::fmt;
 
-/// Why a call was refused. A refusal changes nothing. Where several apply, the one with the smallest number is given, but for
-/// [`Error::Window`], which stands between [`Error::Keys`] and [`Error::Twice`].
+/// Why a call was refused. A refusal changes nothing. Where several apply, the one with the smallest number is given.
 #[derive(Clone, Copy, Debug, PartialEq, Eq, Hash)]
 #[non_exhaustive]
 pub enum Error {
@@ -29,9 +28,9 @@ pub enum Error {
     Order,
     /// 11: the packet's index would pass 2^48 - 1: the stream needs a new key.
     Worn,
-    /// 12: the packet is the stream's window or more behind the highest accepted, or its index is below 0.
+    /// 12: the packet is 64 or more behind the highest accepted, or its index is below 0.
     Old,
-    /// 13: the packet was given back before, less than the stream's window behind the highest accepted.
+    /// 13: the packet was given back before.
     Repeat,
     /// 14: the authentication tag is wrong.
     Tag,
@@ -45,33 +44,30 @@ pub enum Error {
     Full,
     /// 19: the packet has no such element.
     Absent,
-    /// 21: to add a stream that is received: the window is not 64 to 1,024 in steps of 64. Given before [`Error::Twice`].
-    Window,
     /// A number that this crate does not know: the library is another version.
     Other(u32),
 }
 
-const LISTED: [(u32, Error); 20] = [
-    (1, Error::Length),
-    (2, Error::Short),
-    (3, Error::Version),
-    (4, Error::Header),
-    (5, Error::Profile),
-    (6, Error::Element),
-    (7, Error::Large),
-    (8, Error::Room),
-    (9, Error::Stream),
-    (10, Error::Order),
-    (11, Error::Worn),
-    (12, Error::Old),
-    (13, Error::Repeat),
-    (14, Error::Tag),
-    (15, Error::Keys),
-    (16, Error::Policy),
-    (17, Error::Twice),
-    (18, Error::Full),
-    (19, Error::Absent),
-    (21, Error::Window),
+const LISTED: [Error; 19] = [
+    Error::Length,
+    Error::Short,
+    Error::Version,
+    Error::Header,
+    Error::Profile,
+    Error::Element,
+    Error::Large,
+    Error::Room,
+    Error::Stream,
+    Error::Order,
+    Error::Worn,
+    Error::Old,
+    Error::Repeat,
+    Error::Tag,
+    Error::Keys,
+    Error::Policy,
+    Error::Twice,
+    Error::Full,
+    Error::Absent,
 ];
 
 impl Error {
@@ -79,18 +75,15 @@ impl Error {
     pub(crate) fn check(number: u32) -> Result<(), Error> {
         match number {
             0 => Ok(()),
-            n => Err(LISTED
-                .iter()
-                .find(|row| row.0 == n)
-                .map_or(Error::Other(n), |row| row.1)),
+            n => Err(LISTED.get(n as usize - 1).copied().unwrap_or(Error::Other(n))),
         }
     }
 
-    /// The number of document 01 or 02.
+    /// The number of document 01.
     pub fn number(self) -> u32 {
         match self {
             Error::Other(n) => n,
-            known => LISTED.iter().find(|row| row.1 == known).map_or(0, |row| row.0),
+            known => LISTED.iter().position(|e| *e == known).map_or(0, |k| k as u32 + 1),
         }
     }
 }

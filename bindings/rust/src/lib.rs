@@ -11,9 +11,8 @@
 //! let (key, salt) = ([7u8; 16], [9u8; 12]);
 //! let mut sender = Session::new(&key, &salt, Policy::Cryptex, &[], Suite::Gcm)?;
 //! let mut receiver = Session::new(&key, &salt, Policy::Cryptex, &[], Suite::Gcm)?;
-//! // a window is a receiver's: what arrives so far behind, or further, is old
-//! sender.add(0xcafebabe, Way::Sending, 0, 0)?;
-//! receiver.add(0xcafebabe, Way::Receiving, 0, delugash::MAX_WINDOW)?;
+//! sender.add(0xcafebabe, Way::Sending, 0)?;
+//! receiver.add(0xcafebabe, Way::Receiving, 0)?;
 //!
 //! // a packet of 20 bytes, in a buffer with room for what protecting adds
 //! let packet = *b"\x80\x60\x00\x01\0\0\0\0\xca\xfe\xba\xbepayload!";
@@ -36,12 +35,6 @@ pub use error::Error;
 
 /// The most that protecting adds to a packet: a tag of 16 bytes with GCM, and four where Cryptex adds an empty extension block.
 pub const ROOM: usize = 20;
-
-/// The least window of a stream that is received, and the step from one to the next.
-pub const MIN_WINDOW: u64 = 64;
-
-/// The greatest window of a stream that is received.
-pub const MAX_WINDOW: u64 = 1024;
 
 /// How a session treats header extensions and contributors.
 #[derive(Clone, Copy, Debug, PartialEq, Eq, Hash)]
@@ -135,22 +128,10 @@ impl Session {
     }
 
     /// Adds a stream. Its first packet has the index `rollover * 65,536 + sequence number`.
-    ///
-    /// `window` is the memory of a stream that is received for late packets: [`MIN_WINDOW`] to [`MAX_WINDOW`] in steps of [`MIN_WINDOW`], any other number
-    /// is [`Error::Window`]. A packet that arrives this far or more behind the highest one accepted is [`Error::Old`]. The largest costs no more than the
-    /// least. A stream that is sent has none: there the number is not looked at.
-    pub fn add(&mut self, ssrc: u32, way: Way, rollover: u32, window: u64) -> Result<(), Error> {
+    pub fn add(&mut self, ssrc: u32, way: Way, rollover: u32) -> Result<(), Error> {
         // SAFETY: the pointer comes with its length.
-        let number = unsafe {
-            border::delugash_add(
-                self.words.as_mut_ptr(),
-                self.words.len(),
-                ssrc,
-                way as u32,
-                rollover,
-                window,
-            )
-        };
+        let number =
+            unsafe { border::delugash_add(self.words.as_mut_ptr(), self.words.len(), ssrc, way as u32, rollover) };
         Error::check(number)
     }
 

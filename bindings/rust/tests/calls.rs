@@ -1,6 +1,6 @@
 //! Published packets of both suites both ways, published keystream in stretches, each refusal that a safe call can meet, what a refusal leaves, and what is shown of a session.
 
-use delugash::{find, stretch, Error, Policy, Session, Suite, Way, MAX_WINDOW, MIN_WINDOW};
+use delugash::{find, stretch, Error, Policy, Session, Suite, Way};
 
 /// The master key and salt of RFC 3711's B.3, which RFC 9335's appendix takes.
 const KEY: [u8; 16] = *b"\xe1\xf9\x7a\x0d\x3e\x01\x8b\xe0\xd6\x4f\xa3\x2c\x06\xde\x41\x39";
@@ -19,7 +19,7 @@ fn session_of(suite: Suite, policy: Policy, way: Way) -> Session {
         Suite::Gcm => (&GCM_KEY, &GCM_SALT[..]),
     };
     let mut made = Session::new(key, salt, policy, &[1, 3, 4], suite).expect("a session");
-    made.add(SSRC, way, 0, MIN_WINDOW).expect("a stream");
+    made.add(SSRC, way, 0).expect("a stream");
     made
 }
 
@@ -235,7 +235,7 @@ fn crossed_suites_are_refused() {
     let made = |suite: Suite, way: Way| {
         let salt = &longer[..suite.salt_length()];
         let mut made = Session::new(&GCM_KEY, salt, Policy::Cryptex, &[], suite).expect("a session");
-        made.add(SSRC, way, 0, MIN_WINDOW).expect("a stream");
+        made.add(SSRC, way, 0).expect("a stream");
         made
     };
     for (suite, other) in [(Suite::CmHmac, Suite::Gcm), (Suite::Gcm, Suite::CmHmac)] {
@@ -291,11 +291,11 @@ fn refusals_of_making_and_adding() {
         assert_eq!(refused(16, 13, Policy::Mask), Some(Error::Keys), "this comes before");
     }
     let mut made = session(Policy::Plain, Way::Sending);
-    assert_eq!(made.add(SSRC, Way::Receiving, 0, MIN_WINDOW), Err(Error::Twice));
+    assert_eq!(made.add(SSRC, Way::Receiving, 0), Err(Error::Twice));
     for ssrc in 0..31 {
-        assert_eq!(made.add(ssrc, Way::Receiving, ssrc, MIN_WINDOW), Ok(()));
+        assert_eq!(made.add(ssrc, Way::Receiving, ssrc), Ok(()));
     }
-    assert_eq!(made.add(31, Way::Sending, 0, MIN_WINDOW), Err(Error::Full));
+    assert_eq!(made.add(31, Way::Sending, 0), Err(Error::Full));
 }
 
 #[test]
@@ -518,64 +518,14 @@ fn refusals_of_indices() {
     };
     let mut sender = Session::new(&KEY, &SALT, Policy::Plain, &[], Suite::CmHmac).expect("a session");
     let mut receiver = sender.clone();
-    sender.add(SSRC, Way::Sending, u32::MAX, 0).expect("a stream");
-    receiver
-        .add(SSRC, Way::Receiving, u32::MAX, MIN_WINDOW)
-        .expect("a stream");
+    sender.add(SSRC, Way::Sending, u32::MAX).expect("a stream");
+    receiver.add(SSRC, Way::Receiving, u32::MAX).expect("a stream");
     let (mut first, mut last) = (packet(65471), packet(65535));
     assert_eq!(sender.protect(&mut first, 14), Ok(24));
     assert_eq!(sender.protect(&mut last, 14), Ok(24));
     assert_eq!(sender.protect(&mut packet(0), 14), Err(Error::Worn));
     assert_eq!(receiver.unprotect(&mut last, 24), Ok(14));
     assert_eq!(receiver.unprotect(&mut first, 24), Err(Error::Old));
-}
-
-#[test]
-fn windows_of_an_add() {
-    let mut made = session(Policy::Plain, Way::Sending);
-    for window in (0..2200).chain([65536 + 64, (1 << 32) + 64, u64::MAX - 63, u64::MAX]) {
-        let right = (64..=1024).contains(&window) && window % 64 == 0;
-        let expected = if right { Ok(()) } else { Err(Error::Window) };
-        assert_eq!(made.clone().add(7, Way::Receiving, 0, window), expected, "{window}");
-        assert_eq!(
-            made.clone().add(7, Way::Sending, 0, window),
-            Ok(()),
-            "a sender's {window} is not looked at"
-        );
-    }
-    assert_eq!(
-        made.add(SSRC, Way::Receiving, 0, 63),
-        Err(Error::Window),
-        "this comes before Twice"
-    );
-    assert_eq!(made.add(SSRC, Way::Sending, 0, 63), Err(Error::Twice));
-    assert_eq!(Error::Window.number(), 21);
-    assert_eq!((MIN_WINDOW, MAX_WINDOW), (64, 1024));
-}
-
-#[test]
-fn late_packets_are_taken_once() {
-    let sent: Vec<Vec<u8>> = {
-        let mut sender = session(Policy::Plain, Way::Sending);
-        (0..1200u16)
-            .map(|sequence| {
-                let mut buf = hex("800f0000decafbadcafebabeabab00000000000000000000");
-                buf[2..4].copy_from_slice(&sequence.to_be_bytes());
-                assert_eq!(sender.protect(&mut buf, 14), Ok(24));
-                buf
-            })
-            .collect()
-    };
-    for window in (MIN_WINDOW..=MAX_WINDOW).step_by(64) {
-        let mut receiver = Session::new(&KEY, &SALT, Policy::Plain, &[], Suite::CmHmac).expect("a session");
-        receiver.add(SSRC, Way::Receiving, 0, window).expect("a stream");
-        let mut arrives = |behind: u64| receiver.unprotect(&mut sent[1199 - behind as usize].clone(), 24);
-        assert_eq!(arrives(0), Ok(14));
-        assert_eq!(arrives(window), Err(Error::Old), "{window} behind, with this window");
-        assert_eq!(arrives(window - 1), Ok(14));
-        assert_eq!(arrives(window - 1), Err(Error::Repeat));
-        assert_eq!(arrives(window - 2), Ok(14));
-    }
 }
 
 #[test]

@@ -4,13 +4,12 @@ ghost use Rattle.session.specs.Calls.{way_of, Leaves, add_call};
 ghost use Rattle.session.specs.Memory.{record_words};
 ghost use Rattle.session.specs.Records.{fresh_record};
 
-use crate::window::{bad_window, window_for};
 use bits::refusal::{MEMORY, Refusal, WAY};
 use memory::copying::copy;
 use policies::policy::Way;
 use records::places::{free_place, has_ssrc, head_word};
 use session::answer::code;
-use session::layout::{EACH, FRONT, ROLLOVER, SIZE, WINDOW};
+use session::layout::{EACH, FRONT, ROLLOVER, SIZE};
 use session::load::is_made;
 use session::place::Place;
 
@@ -25,20 +24,18 @@ fn way_of(way: u32) -> Way
 }
 
 // The record of a stream that has had no packet: its replay state is zeros.
-fn fresh_record(ssrc: u32, way: Way, rollover: u32, window: u64) -> [u64; EACH]
-    ensures { result ≡ record_words (fresh_record ssrc way rollover window) }
+fn fresh_record(ssrc: u32, way: Way, rollover: u32) -> [u64; EACH]
+    ensures { result ≡ record_words (fresh_record ssrc way rollover) }
 {
     let mut words = [0u64; EACH];
     words[0] = head_word(ssrc, way);
     words[ROLLOVER] = rollover as u64;
-    words[WINDOW] = window_for(way, window);
     words
 }
 
-// A stream to send (way 0) or to receive (way 1), whose first packet has the starting rollover. `window` is W of a receiver, 64 to 1,024 in steps of 64: what
-// arrives W or more behind the highest index is old. A sender's is not looked at. A refusal changes nothing.
-pub fn add(session: &mut [u64], ssrc: u32, way: u32, rollover: u32, window: u64) -> u32
-    ensures { Leaves (add_call session.old ssrc way rollover window) result session.new }
+// A stream to send (way 0) or to receive (way 1), whose first packet has the starting rollover. A refusal changes nothing.
+pub fn add(session: &mut [u64], ssrc: u32, way: u32, rollover: u32) -> u32
+    ensures { Leaves (add_call session.old ssrc way rollover) result session.new }
 {
     if session.len() != SIZE {
         return MEMORY;
@@ -49,17 +46,13 @@ pub fn add(session: &mut [u64], ssrc: u32, way: u32, rollover: u32, window: u64)
     if !is_made(session[0]) {
         return code(Refusal::Keys);
     }
-    let way = way_of(way);
-    if bad_window(way, window) {
-        return code(Refusal::Window);
-    }
     if has_ssrc(session, ssrc) {
         return code(Refusal::Twice);
     }
     let Place::At(i) = free_place(session) else {
         return code(Refusal::Full);
     };
-    let words = fresh_record(ssrc, way, rollover, window);
+    let words = fresh_record(ssrc, way_of(way), rollover);
     let at = FRONT + EACH * i;
     let end = at + EACH;
     copy(&mut session[at..end], &words);

@@ -1,8 +1,7 @@
--- The refusals and their numbers: document 01, "Numbers given back", to which document 02 adds conditions and numbers, and the border's own.
-use Rattle.std.specs.Prelude.{◌≡◌, List, [], ◌∷◌, map, ℕ, eqb}
-use Rattle.bits.specs.Pick.{pick}
+-- The refusals and their numbers: document 01, "Numbers given back", to which document 02 adds conditions, and the border's own.
+use Rattle.std.specs.Prelude.{◌≡◌, List, [], ◌∷◌, map, ℕ, ◌-◌, get_or}
 use Rattle.bits.specs.declared.refusal.Refusal.{Refusal}
-use Rattle.bits.specs.declared.refusal.Refusal.TheVariants.{Length, Short, Version, Header, Profile, Element, Large, Room, Stream, Order, Worn, Old, Repeat, Tag, Keys, Policy, Twice, Full, Absent, Window}
+use Rattle.bits.specs.declared.refusal.Refusal.TheVariants.{Length, Short, Version, Header, Profile, Element, Large, Room, Stream, Order, Worn, Old, Repeat, Tag, Keys, Policy, Twice, Full, Absent}
 
 -- the number that a call gives back for a refusal
 abbrev pub number_of : Refusal → ℕ
@@ -18,8 +17,6 @@ number_of Room = 8
 number_of Stream = 9
 number_of Order = 10
 number_of Worn = 11
--- OLD: the index is below 0, or W or more behind the highest accepted. REPEAT: accepted before, less than W behind. W is the window of the stream's own record
--- (`replay/Receive.judge_index`, `replay/State.judge_of`)
 number_of Old = 12
 number_of Repeat = 13
 number_of Tag = 14
@@ -28,24 +25,17 @@ number_of Policy = 16
 number_of Twice = 17
 number_of Full = 18
 number_of Absent = 19
--- a receiver's window that is not 64 to 1,024 in steps of 64 (document 02, CR 8; `replay/Window.is_window`, `session/Adding.bad_window`)
-number_of Window = 21
 
--- the table of document 01, row by row, and what document 02 adds to it
+-- the table of document 01, row by row
 abbrev pub refusals : List Refusal
 refusals =
     Length ∷ Short ∷ Version ∷ Header ∷ Profile ∷ Element ∷ Large ∷ Room ∷ Stream ∷ Order
-    ∷ Worn ∷ Old ∷ Repeat ∷ Tag ∷ Keys ∷ Policy ∷ Twice ∷ Full ∷ Absent ∷ Window ∷ []
+    ∷ Worn ∷ Old ∷ Repeat ∷ Tag ∷ Keys ∷ Policy ∷ Twice ∷ Full ∷ Absent ∷ []
 
--- the refusal in the row with this number
-abbrev pub in_row : ℕ → List Refusal → Refusal
-in_row n [] = Length
-in_row n (r ∷ l) = pick (eqb (number_of r) n) r (in_row n l)
-
--- The rows have these numbers, and each refusal stands in the row of its number: so no two share one, and none is missing.
+-- The rows are numbered from 1 on, and a refusal stands in the row of its number: so no two share one, and none is missing.
 pub record Numbered : Type 0 where
-  pub numbers : map number_of refusals ≡ 1 ∷ 2 ∷ 3 ∷ 4 ∷ 5 ∷ 6 ∷ 7 ∷ 8 ∷ 9 ∷ 10 ∷ 11 ∷ 12 ∷ 13 ∷ 14 ∷ 15 ∷ 16 ∷ 17 ∷ 18 ∷ 19 ∷ 21 ∷ []
-  pub rows : (r : Refusal) → in_row (number_of r) refusals ≡ r
+  pub numbers : map number_of refusals ≡ 1 ∷ 2 ∷ 3 ∷ 4 ∷ 5 ∷ 6 ∷ 7 ∷ 8 ∷ 9 ∷ 10 ∷ 11 ∷ 12 ∷ 13 ∷ 14 ∷ 15 ∷ 16 ∷ 17 ∷ 18 ∷ 19 ∷ []
+  pub rows : (r : Refusal) → get_or refusals (number_of r - 1) Length ≡ r
 
 -- ---- the border's own, which no paper has: what a caller can pass and the papers' types cannot hold
 

@@ -1,5 +1,5 @@
 // What more than one crate cites: choice by a test, big-endian numbers, keys as arrays, exclusive or, the rule of a table, refusals.
-// Follows documents 01 and 02 for the refusals and RFC 3550, section 4, for the byte order; the rest is arithmetic.
+// Follows document 01 for the refusals and RFC 3550, section 4, for the byte order; the rest is arithmetic.
 pub mod arrays;
 pub mod big_endian;
 pub mod refusal;

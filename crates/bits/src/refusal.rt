@@ -1,4 +1,4 @@
-// The refusals of document 01 ("Numbers given back") and document 02, a name for each number, and those of the border.
+// The refusals of document 01 ("Numbers given back"), a name for each number, and those of the border.
 ghost use Rattle.std.specs.Prelude.{◌≡◌};
 ghost use Rattle.bits.specs.Refusals.{number_of, Numbered};
 
@@ -23,7 +23,6 @@ pub enum Refusal {
     Twice,
     Full,
     Absent,
-    Window,
 }
 
 // The border's own: session memory of another size.
@@ -62,11 +61,10 @@ pub fn number(refusal: Refusal) -> u8
         Refusal::Twice => 17,
         Refusal::Full => 18,
         Refusal::Absent => 19,
-        Refusal::Window => 21,
     }
 }
 
-// The numbers are 1 to 19 and 21, and no two refusals share one.
+// The numbers are 1 to 19, and no two refusals share one.
 pub fn refusals_are_numbered()
     ensures { Numbered }
 {}

@@ -54,12 +54,11 @@ fn is_silent(line: &[u8]) -> bool {
     (line[0] == 35) & (line.len() <= 20000)
 }
 
-// The longest answer is the state of 32 receivers that remember 1,024 indices each: 129,188 bytes with its end.
 pub fn answer(desk: &mut [u64], line: &[u8]) {
     if is_silent(line) {
         return;
     }
-    let mut out = [0u8; 131072];
+    let mut out = [0u8; 20001];
     let length = command(desk, line, &mut out);
     write_line(&mut out, length);
 }

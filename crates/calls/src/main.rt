@@ -27,7 +27,7 @@ fn answer_lines(desk: &mut [u64], line: &mut [u8], chunk: &mut [u8]) {
 
 // Eight sessions, none of them made. A line has a byte more than the longest that is read, so that a longer one is known.
 fn main() {
-    let mut desk = [0u64; 10216];
+    let mut desk = [0u64; 2280];
     let mut line = [0u8; 20001];
     let mut chunk = io::buffer();
     answer_lines(&mut desk, &mut line, &mut chunk);

@@ -1,10 +1,10 @@
 // The packet calls.
 ghost use Rattle.std.specs.Prelude.{◌≡◌};
 ghost use Rattle.session.specs.Calls.{Gives, protect_call, unprotect_call};
-ghost use Rattle.finding.specs.Finding.{find_call};
+ghost use Rattle.srtp.specs.Finding.{find_call};
 
-use finding::find::{Part, find};
 use session::answer::Answer;
+use srtp::find::{Part, find};
 use srtp::protect::protect;
 use srtp::unprotect::unprotect;
 

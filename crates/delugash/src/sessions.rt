@@ -33,14 +33,8 @@ pub extern "C" fn delugash_make(
 }
 
 #[unsafe(no_mangle)]
-pub extern "C" fn delugash_add(
-    session: &mut [u64],
-    ssrc: u32,
-    way: u32,
-    rollover: u32,
-    window: u64,
-) -> u32
-    ensures { Leaves (add_call session.old ssrc way rollover window) result session.new }
+pub extern "C" fn delugash_add(session: &mut [u64], ssrc: u32, way: u32, rollover: u32) -> u32
+    ensures { Leaves (add_call session.old ssrc way rollover) result session.new }
 {
-    add(session, ssrc, way, rollover, window)
+    add(session, ssrc, way, rollover)
 }

@@ -6,7 +6,7 @@ use text_output::output::{put_hex, put_two};
 
 // Where the first element with an id begins in a packet, as C is told it; 0 for an empty one and for none.
 fn begin(packet: &[u8], id: u8) -> usize {
-    let part = finding::find::find(packet, id as u32);
+    let part = srtp::find::find(packet, id as u32);
     if part.length == 0 {
         return 0;
     }

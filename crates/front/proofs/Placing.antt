@@ -10,7 +10,7 @@ use Rattle.rtp_header.specs.declared.header.Layout.{Layout}
 use Rattle.rtp_header.specs.Header.{seq_of, ssrc_of}
 use Rattle.replay.specs.declared.answer.Judged.{Judged}
 use Rattle.replay.specs.declared.answer.Judged.TheVariants.{Index, Refused as NoIndex}
-use Rattle.replay.specs.Window.{blocks}
+use Rattle.replay.specs.Window.{blocks, width}
 use Rattle.ledger.specs.Claims.{Gives as IndexGives}
 use Rattle.ledger.proofs.Indices.{receiving, sending, gives_at}
 use Rattle.policies.specs.declared.policy.Way.{Way}
@@ -31,7 +31,7 @@ unfolding record_at
 judged-small Sending words i h seq small =
     (sending (record_in words i).replay (record_in words i).rollover seq (rw (record-at words i h) (omega arith)) small).small
 judged-small Receiving words i h seq small =
-    (receiving blocks (record_in words i).window (record_in words i).replay (record_in words i).rollover seq (rw (record-at words i h) (omega arith)) small).small
+    (receiving blocks width (record_in words i).replay (record_in words i).rollover seq (rw (record-at words i h) (omega arith)) small).small
 
 -- ---- how it ends
 

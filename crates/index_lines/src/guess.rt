@@ -26,9 +26,9 @@ fn put_signed(out: &mut [u8], at: usize, x: i32) -> usize {
     put_decimal(out, at, magnitude(x))
 }
 
-// NO INDEX DISTANCE, for a window of 64, beside the track of a record.
+// NO INDEX DISTANCE, for a window of 64.
 fn put_guess(out: &mut [u8], highest: u64, sequence: u16) -> usize {
-    let mut track = [0u64; 36];
+    let mut track = [0u64; 6];
     accept(&mut track, highest);
     let arrival = receive(&track, 64, 0, sequence);
     let judged = arrival.judged;

@@ -1,12 +1,12 @@
--- A state remembers what the ledger holds, as far as the window goes, as long as both are fed the same arrivals.
+-- A state remembers what the ledger holds, as far as the width goes, as long as both are fed the same arrivals.
 use mathlib.Core.Path.{◌≡◌, refl, sym, ap, ap₂, ◌∙◌}
-use mathlib.Core.Bool.{Bool, true, false, ◌&&◌}
+use mathlib.Core.Bool.{Bool, true, false}
 use mathlib.Core.List.{List, [], ◌∷◌}
 use mathlib.Core.Logic.{⊎_elim}
 use Prim.Native.Nat.{ℕ, ◌+◌, ◌*◌, ◌/◌, ◌%◌, ◌^◌, ◌<◌, ◌≤◌, max}
 use native.Mathlib.Nat.{mod-lt}
 use native.Mathlib.Omega.{arith}
-use borrow.Author.Tests.{eq-eqb, ne_eqb, leb-true, leb-false}
+use borrow.Author.Tests.{eq-eqb, ne_eqb, leb-false}
 use lib.Dec.{eqb, leb}
 use lib.IntN.{pos}
 use lib.ListN.{get_or, replicate, length-replicate, get_or-replicate}
@@ -19,7 +19,7 @@ use Rattle.replay.specs.declared.answer.Told.{Told}
 use Rattle.replay.specs.State.{ReplayState, fresh_of, judge_of, accept_of, after_of}
 use Rattle.replay.specs.Answers.{told_of}
 use Rattle.replay.specs.Guess.{low_of}
-use Rattle.replay.specs.Window.{is_window, blocks, block_of, seen_in}
+use Rattle.replay.specs.Window.{block_of, seen_in}
 use Rattle.replay.specs.Receive.{index_for, judge_index, receive_of}
 use Rattle.ledger.specs.Ledger.{highest_of, holds, Entry, given, refused, enter, by_ledger, by_memory, by_receiver, state_after, held_after, guess_beside, GuessedRight, Near}
 use Rattle.ledger.proofs.Guesses.{near}
@@ -186,13 +186,3 @@ module _ (b W rollover : ℕ) (room : W + 64 ≤ 64 * b) where
   remembered s l (i ∷ is) m (h, (r, g)) =
       let a = received-by-ledger b W room s rollover l i m h r in
       remembered (receive_of b W s rollover (low_of i)).state (enter W l i).held is a.remembers g
-
--- ---- the windows that an add takes
-
-pub window-room : (W : ℕ) → is_window W ≡ true → W + 64 ≤ 64 * blocks
-window-room W e = go (leb 64 W) (leb W 1024) (eqb (W % 64) 0) refl e
-  where
-    go : (a b c : Bool) → leb W 1024 ≡ b → (a && (b && c)) ≡ true → W + 64 ≤ 64 * blocks
-    go true true c h e = let k = leb-true W 1024 h in omega arith
-    go true false c h e = let z : ◌≡◌ {A = ℕ} 0 1 = cc in absurd (omega arith)
-    go false b c h e = let z : ◌≡◌ {A = ℕ} 0 1 = cc in absurd (omega arith)

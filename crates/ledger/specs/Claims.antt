@@ -24,7 +24,7 @@ abbrev pub Gives : (ℕ → Type 0) → Judged → Type 0
 Gives P (Index i) = P i
 Gives P (Refused r) = Unit {0}
 
--- of a receiver's step with b blocks and window W, and of a sender's, from any state
+-- of a receiver's step with b blocks and width W, and of a sender's, from any state
 pub record Receiving (b W : ℕ) (s : ReplayState) (rollover seq : ℕ) : Type 0 where
   -- the index has 48 bits and ends in the sequence number
   pub small : Gives (λ i. i < 2 ^ 48) (receive_of b W s rollover seq).judged

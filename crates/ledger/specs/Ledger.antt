@@ -1,12 +1,12 @@
 -- Document 01, "Lists of calls in demand 3": the ledger, and a receiver's answers beside it over any list of arrivals. "Ledger" is that paper's word.
-use Rattle.std.specs.Prelude.{◌≡◌, Bool, true, false, ◌||◌, List, [], ◌∷◌, ℕ, ◌+◌, ◌*◌, ◌^◌, ◌<◌, ◌≤◌, max, eqb, leb, ℤ, pos}
+use Rattle.std.specs.Prelude.{◌≡◌, Bool, false, ◌||◌, List, [], ◌∷◌, ℕ, ◌+◌, ◌*◌, ◌^◌, ◌<◌, ◌≤◌, max, eqb, leb, ℤ, pos}
 use Rattle.bits.specs.Pick.{pick}
 use Rattle.replay.specs.declared.answer.Told.{Told}
 use Rattle.replay.specs.State.{ReplayState, fresh_of, judge_of, after_of}
 use Rattle.replay.specs.Answers.{told_of}
 use Rattle.replay.specs.Guess.{low_of, rollover_of, guess_of}
 use Rattle.replay.specs.Receive.{receive_of}
-use Rattle.replay.specs.Window.{is_window, blocks}
+use Rattle.replay.specs.Window.{blocks, width}
 
 -- A ledger is the list of the indices given back, none at first. It forgets none. The highest of them:
 abbrev pub highest_of : List ℕ → ℕ
@@ -79,7 +79,7 @@ abbrev pub Near : ℕ → List ℕ → ℕ → Type 0
 Near rollover [] i = rollover_of i ≡ rollover
 Near rollover (k ∷ l) i = (i < highest_of (k ∷ l) + 32768) × (highest_of (k ∷ l) < i + 32768)
 
--- An example with W = 64: index 65,536 ends in the same 16 bits as index 0 and is not taken for it; then a repeat, 64 behind, and 63 behind.
+-- An example: index 65,536 ends in the same 16 bits as index 0 and is not taken for it; then a repeat, 64 behind, and 63 behind.
 abbrev pub arrivals : List ℕ
 arrivals = 0 ∷ 30000 ∷ 60000 ∷ 65536 ∷ 65536 ∷ 65472 ∷ 65473 ∷ []
 
@@ -89,17 +89,8 @@ answers =
     ∷ record { number = 0; index = 65536 } ∷ record { number = 13; index = 0 } ∷ record { number = 12; index = 0 }
     ∷ record { number = 0; index = 65473 } ∷ []
 
--- And one with W = 1,024: 1,023 behind, 1,024 behind, and the first of these again.
-abbrev pub late_arrivals : List ℕ
-late_arrivals = 5000 ∷ 3977 ∷ 3976 ∷ 3977 ∷ []
-
-abbrev pub late_answers : List Told
-late_answers =
-    record { number = 0; index = 5000 } ∷ record { number = 0; index = 3977 } ∷ record { number = 12; index = 0 }
-    ∷ record { number = 13; index = 0 } ∷ []
-
 pub record FollowsTheLedger : Type 0 where
-  -- Over any list of arrivals, for any number of blocks b and any window W up to 64 * (b - 1): the memory answers as the ledger does,
+  -- Over any list of arrivals, for any number of blocks b and any width W up to 64 * (b - 1): the memory answers as the ledger does,
   pub memory : (b W : ℕ) → W + 64 ≤ 64 * b → (is : List ℕ) → by_memory b W (fresh_of b) is ≡ by_ledger W [] is
   -- and where the guesses are right, so does the receiver, and its highest index is the ledger's
   pub receiver : (b W rollover : ℕ) → W + 64 ≤ 64 * b → (is : List ℕ) → GuessedRight W rollover [] is
@@ -108,10 +99,8 @@ pub record FollowsTheLedger : Type 0 where
       → (state_after b W rollover (fresh_of b) is).highest ≡ highest_of (held_after W [] is)
   -- a near arrival is guessed right
   pub near : (rollover : ℕ) (l : List ℕ) (i : ℕ) → Near rollover l i → guess_beside rollover l (low_of i) ≡ pos i
-  -- a record's ring is long enough for every window that a receiver's add takes
-  pub enough : (W : ℕ) → is_window W ≡ true → W + 64 ≤ 64 * blocks
-  -- the examples' guesses are right
-  pub met : GuessedRight 64 0 [] arrivals
-  pub example : by_ledger 64 [] arrivals ≡ answers
-  pub met-late : GuessedRight 1024 0 [] late_arrivals
-  pub example-late : by_ledger 1024 [] late_arrivals ≡ late_answers
+  -- this library's ring is long enough for its width
+  pub enough : width + 64 ≤ 64 * blocks
+  -- the example's guesses are right
+  pub met : GuessedRight width 0 [] arrivals
+  pub example : by_ledger width [] arrivals ≡ answers

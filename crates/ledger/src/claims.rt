@@ -12,7 +12,7 @@ pub fn steps_are_sound()
     ensures { StepsAreSound }
 {}
 
-// Over every list of arrivals the memory answers as the ledger of document 01 does, for every window, and so does a receiver whose
+// Over every list of arrivals the memory answers as the ledger of document 01 does, for every width, and so does a receiver whose
 // guesses are right.
 pub fn follows_the_ledger()
     ensures { FollowsTheLedger }

@@ -12,7 +12,7 @@ use suites::suite::{Suite, suite_number, tag_length};
 fn begin(session: &mut [u64], key: &[u8], salt: &[u8], policy: u64, suite: u32, way: u32) {
     let ids = [1u8, 3, 4];
     make(session, key, salt, policy, &ids, suite);
-    add(session, 0xcafebabe, way, 0, 64);
+    add(session, 0xcafebabe, way, 0);
 }
 
 // The first bytes of a buffer; nothing after a refusal.

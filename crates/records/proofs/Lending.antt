@@ -13,12 +13,12 @@ use Rattle.replay.specs.Receive.{receive_of}
 use Rattle.replay.specs.Send.{send_of, sent_of}
 use Rattle.replay.specs.State.{ReplayState, accept_of}
 use Rattle.replay.specs.Track.{blocks_in, state_in, state_words}
-use Rattle.replay.specs.Window.{blocks}
+use Rattle.replay.specs.Window.{blocks, width}
 use Rattle.replay.proofs.Tracks.{blocks-are, accept-blocks, sent-blocks, state-length}
 use Rattle.policies.specs.declared.policy.Way.{Way}
 use Rattle.policies.specs.declared.policy.Way.TheVariants.{Sending, Receiving}
 use Rattle.session.specs.Calls.{with_replay_at}
-use Rattle.session.specs.Memory.{record_layout, the_rollover, the_window, the_replay, record_at, size, record_place}
+use Rattle.session.specs.Memory.{record_layout, the_rollover, the_replay, record_at, size, record_place}
 use Rattle.session.specs.Session.{Record}
 use Rattle.session.proofs.Records.{cell_at, record-at, field_at, number_at, replay-length, replay-blocks}
 use Rattle.records.specs.Tracks.{record_in, judged_by, committed_by}
@@ -54,22 +54,14 @@ module _ (words : List ℕ) (sized : length words ≡ size) (i : ℕ) (in32 : i 
       ∙ sym (ap (λ (n : ℕ). n % 2 ^ 32) (number_at words i the_rollover (omega arith) refl))
       ∙ sym (ap (λ (r : Record). r.rollover) (record-at words i in32))
 
-  window-is : word words (at + place_in record_layout the_window) ≡ (record_in words i).window
-  unfolding record_at
-  window-is =
-      ap (λ (a : ℕ). word words (a + place_in record_layout the_window)) is_at
-      ∙ sym (number_at words i the_window (omega arith) refl)
-      ∙ sym (ap (λ (r : Record). r.window) (record-at words i in32))
-
   module _ (rollover : ℕ) (is_rollover : rollover ≡ word words (at + place_in record_layout the_rollover) % 2 ^ 32) (seq : ℕ) where
     pub judged-sending : (send_of (state_in track) rollover seq).judged ≡ judged_by Sending (record_in words i) seq
     judged-sending = ap₂ (λ (s : ReplayState) (r : ℕ). (send_of s r seq).judged) state-is (is_rollover ∙ rollover-is)
 
-    pub judged-receiving : (W : ℕ) → W ≡ word words (at + place_in record_layout the_window)
-        → (receive_of (blocks_in (drop 2 track)) W (state_in track) rollover seq).judged ≡ judged_by Receiving (record_in words i) seq
-    judged-receiving W is_window =
-        ap₂ (λ (b w : ℕ). (receive_of b w (state_in track) rollover seq).judged) track-blocks (is_window ∙ window-is)
-        ∙ ap₂ (λ (s : ReplayState) (r : ℕ). (receive_of blocks (record_in words i).window s r seq).judged) state-is (is_rollover ∙ rollover-is)
+    pub judged-receiving : (receive_of (blocks_in (drop 2 track)) width (state_in track) rollover seq).judged ≡ judged_by Receiving (record_in words i) seq
+    judged-receiving =
+        ap (λ (b : ℕ). (receive_of b width (state_in track) rollover seq).judged) track-blocks
+        ∙ ap₂ (λ (s : ReplayState) (r : ℕ). (receive_of blocks width s r seq).judged) state-is (is_rollover ∙ rollover-is)
 
   module _ (m : List ℕ) (index : ℕ) where
     came : (s : ReplayState) → m ≡ state_words s → length m ≡ get_or record_layout the_replay 0

@@ -1,11 +1,11 @@
--- A packet beside its stream's record, sent or received: its index or the refusal (document 01, numbers 10 to 13, with the record's own window), and the replay state once it was taken.
+-- A packet beside its stream's record, sent or received: its index or the refusal (document 01, numbers 10 to 13), and the replay state once it was taken.
 use Rattle.std.specs.Prelude.{List, ℕ, get_or}
 use Rattle.replay.specs.declared.answer.Judged.{Judged}
 use Rattle.replay.specs.declared.answer.Judged.TheVariants.{Index}
 use Rattle.replay.specs.Receive.{receive_of}
 use Rattle.replay.specs.Send.{send_of, sent_of}
 use Rattle.replay.specs.State.{ReplayState, accept_of}
-use Rattle.replay.specs.Window.{blocks}
+use Rattle.replay.specs.Window.{blocks, width}
 use Rattle.policies.specs.declared.policy.Way.{Way}
 use Rattle.policies.specs.declared.policy.Way.TheVariants.{Sending, Receiving}
 use Rattle.session.specs.Memory.{records_in}
@@ -18,7 +18,7 @@ record_in words i = get_or (records_in words) i no_record
 
 abbrev pub judged_by : Way → Record → ℕ → Judged
 judged_by Sending r seq = (send_of r.replay r.rollover seq).judged
-judged_by Receiving r seq = (receive_of blocks r.window r.replay r.rollover seq).judged
+judged_by Receiving r seq = (receive_of blocks width r.replay r.rollover seq).judged
 
 abbrev pub committed_by : Way → Record → ℕ → ReplayState
 committed_by Sending r index = sent_of r.replay (Index index)

@@ -1,4 +1,4 @@
 // The records of a session where they lie in its memory: looked up, a packet judged beside one, and its index stored there.
-// Follows document 01, "The library's work" and "Index and record", and document 02, CR 8.
+// Follows document 01, "The library's work" and "Index and record".
 pub mod places;
 pub mod tracks;

@@ -8,8 +8,11 @@ use policies::policy::Way;
 use replay::answer::Judged;
 use replay::receive::{accept, receive};
 use replay::send::{send, sent};
-use session::layout::{EACH, FRONT, REPLAY, REPLAY_END, ROLLOVER, WINDOW};
+use session::layout::{EACH, FRONT, REPLAY, REPLAY_END, ROLLOVER};
 use session::load::low;
+
+// An index this far or more behind the highest is old.
+const WIDTH: u64 = 64;
 
 // Where record i begins.
 fn record_place(i: usize) -> usize
@@ -31,8 +34,7 @@ pub fn judge(session: &[u64], i: usize, way: Way, sequence: u16) -> Judged
     if let Way::Sending = way {
         return send(&session[from..end], rollover, sequence);
     }
-    let window = session[at + WINDOW];
-    let arrival = receive(&session[from..end], window, rollover, sequence);
+    let arrival = receive(&session[from..end], WIDTH, rollover, sequence);
     arrival.judged
 }
 

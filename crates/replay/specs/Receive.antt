@@ -1,4 +1,4 @@
--- Document 01, "Index and record" and numbers 11 to 13: the step of a receiver, with b blocks and window W.
+-- Document 01, "Index and record" and numbers 11 to 13: the step of a receiver, with b blocks and width W.
 use Rattle.std.specs.Prelude.{ℕ, ◌+◌, ◌*◌, ◌^◌, leb, ℤ, pos, negsuc}
 use Rattle.bits.specs.Pick.{pick}
 use Rattle.bits.specs.declared.refusal.Refusal.TheVariants as refusal

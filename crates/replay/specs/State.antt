@@ -1,4 +1,4 @@
--- What a stream remembers, and an index judged beside it (document 01, numbers 12 and 13; RFC 3711, 3.3.2), with b blocks and window W.
+-- What a stream remembers, and an index judged beside it (document 01, numbers 12 and 13; RFC 3711, 3.3.2), with b blocks and width W.
 use Rattle.std.specs.Prelude.{Bool, true, false, ℕ, ◌+◌, max, leb, replicate}
 use Rattle.bits.specs.Pick.{pick}
 use Rattle.bits.specs.declared.refusal.Refusal.TheVariants as refusal

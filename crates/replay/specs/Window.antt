@@ -1,22 +1,20 @@
 -- The memory of accepted indices, which RFC 3711, 3.3.2, calls the replay list: a ring of b blocks of 64 indices, each stamped with its number.
-use Rattle.std.specs.Prelude.{Bool, ◌&&◌, List, ℕ, ◌/◌, ◌%◌, ◌^◌, eqb, leb, get_or, set}
+use Rattle.std.specs.Prelude.{Bool, List, ℕ, ◌/◌, ◌%◌, ◌^◌, eqb, get_or, set}
 use Rattle.std.specs.Int.Bits.{bit_or}
 use Rattle.bits.specs.Bits.{is_set}
 use Rattle.bits.specs.Pick.{pick}
 
--- `Window` is the memory itself. W, which a stream's record calls its `window`, is how far back it is asked.
 -- Bit k of bits[n % b] says that index 64 * n + k was accepted, where stamps[n % b] is n.
 pub record Window : Type 0 where
   pub stamps : List ℕ
   pub bits : List ℕ
 
--- Document 02, CR 8: the windows W that a receiving record takes, "64 to 1,024 in steps of 64"
-abbrev pub is_window : ℕ → Bool
-is_window W = leb 64 W && (leb W 1024 && eqb (W % 64) 0)
-
--- The ring of a record of packets. A ring of b blocks remembers every W up to 64 * (b - 1), so this one serves them all (the claim `FollowsTheLedger`).
+-- This library's ring, and its width W. A ring of b blocks remembers every width up to 64 * (b - 1) (the claim `FollowsTheLedger`).
 abbrev pub blocks : ℕ
-blocks = 17
+blocks = 2
+
+abbrev pub width : ℕ
+width = 64
 
 -- the bits of block n, which stands in place n % b: none where the stamp there is another block's
 abbrev pub block_of : ℕ → Window → ℕ → ℕ

@@ -21,22 +21,22 @@ pub struct Arrival {
     pub distance: i32,
 }
 
-// The index is `window` or more behind the highest.
-fn is_old(highest: u64, window: u64, index: u64) -> bool
-    ensures { result ≡ leb (index + window) highest }
+// The index is `width` or more behind the highest.
+fn is_old(highest: u64, width: u64, index: u64) -> bool
+    ensures { result ≡ leb (index + width) highest }
 {
     if highest < index {
         return false;
     }
-    window <= highest - index
+    width <= highest - index
 }
 
 // Old, repeated, or to be accepted, of a stream that had a packet.
-fn judge(ring: &[u64], highest: u64, window: u64, index: u64) -> Judged
+fn judge(ring: &[u64], highest: u64, width: u64, index: u64) -> Judged
     requires { 2 ≤ length ring.now }
-    ensures { result ≡ judge_of (blocks_in ring.now) window (started_in highest ring.now) index }
+    ensures { result ≡ judge_of (blocks_in ring.now) width (started_in highest ring.now) index }
 {
-    if is_old(highest, window, index) {
+    if is_old(highest, width, index) {
         return Judged::Refused(Refusal::Old);
     }
     if seen(ring, index) {
@@ -46,9 +46,9 @@ fn judge(ring: &[u64], highest: u64, window: u64, index: u64) -> Judged
 }
 
 // The index `highest + up - down`: worn from 2^48 on, old below 0, else judged. The two tests are written so that no sum can wrap.
-fn judge_offset(ring: &[u64], highest: u64, window: u64, up: u32, down: u32) -> Judged
+fn judge_offset(ring: &[u64], highest: u64, width: u64, up: u32, down: u32) -> Judged
     requires { 2 ≤ length ring.now }
-    ensures { result ≡ judge_index (blocks_in ring.now) window (started_in highest ring.now) (sub_ℕ (highest + up) down) }
+    ensures { result ≡ judge_index (blocks_in ring.now) width (started_in highest ring.now) (sub_ℕ (highest + up) down) }
 {
     let up = up as u64;
     let down = down as u64;
@@ -59,14 +59,14 @@ fn judge_offset(ring: &[u64], highest: u64, window: u64, up: u32, down: u32) -> 
     if reached < down {
         return Judged::Refused(Refusal::Old);
     }
-    judge(ring, highest, window, reached - down)
+    judge(ring, highest, width, reached - down)
 }
 
 // The answer for a sequence number. `rollover` is the starting rollover of the stream, which counts for its first packet only. Any words have an
 // answer, also those that no list of packets leads to.
-pub fn receive(track: &[u64], window: u64, rollover: u32, sequence: u16) -> Arrival
+pub fn receive(track: &[u64], width: u64, rollover: u32, sequence: u16) -> Arrival
     requires { 4 ≤ length track.now }
-    ensures { result ≡ arrival_of (blocks_in (drop 2 track.now)) window (state_in track.now) rollover sequence }
+    ensures { result ≡ arrival_of (blocks_in (drop 2 track.now)) width (state_in track.now) rollover sequence }
 {
     if track[0] != 1 {
         return Arrival {
@@ -78,7 +78,7 @@ pub fn receive(track: &[u64], window: u64, rollover: u32, sequence: u16) -> Arri
     let o = guess(highest, sequence);
     let up = o.up;
     let down = o.down;
-    let judged = judge_offset(&track[2..], highest, window, up, down);
+    let judged = judge_offset(&track[2..], highest, width, up, down);
     let distance = difference(up, down);
     Arrival {
         judged: judged,

@@ -149,9 +149,9 @@ module _ (words : List ℕ) (sized : length words ≡ size) (buf : List ℕ) (n 
 
 -- ---- add
 
-module _ (words : List ℕ) (sized : length words ≡ size) (ssrc rollover W : ℕ) (ssrc32 : ssrc < 2 ^ 32) (rollover32 : rollover < 2 ^ 32) (way : Way) where
+module _ (words : List ℕ) (sized : length words ≡ size) (ssrc rollover : ℕ) (ssrc32 : ssrc < 2 ^ 32) (rollover32 : rollover < 2 ^ 32) (way : Way) where
   abbrev new : Record
-  new = fresh_record ssrc way rollover W
+  new = fresh_record ssrc way rollover
 
   is-marked : (decode words).setup.made ≡ true → is_mark (word words 0) ≡ true
   is-marked m = go (is_mark (word words 0)) refl
@@ -177,11 +177,11 @@ module _ (words : List ℕ) (sized : length words ≡ size) (ssrc rollover W : �
         long = record-long words sized i j new fits;
       })
 
-  pub added-holds : Holds (added_in words new (add_of (decode words) ssrc way rollover W)) (add_of (decode words) ssrc way rollover W).session
+  pub added-holds : Holds (added_in words new (add_of (decode words) ssrc way rollover)) (add_of (decode words) ssrc way rollover).session
   added-holds =
-      add-cases (decode words) ssrc way rollover W (λ m. Holds (added_in words new m) m.session)
+      add-cases (decode words) ssrc way rollover (λ m. Holds (added_in words new m) m.session)
       (λ r n. rw (ne_eqb (number_of r) 0 (λ z. omega (arith, above_zero r))) (record { session = refl; long = sized }))
-      (λ m w h f. placed-holds m f (free_from 0 (decode words).records) refl)
+      (λ m h f. placed-holds m f (free_from 0 (decode words).records) refl)
 
 -- ---- two records
 

@@ -1,4 +1,4 @@
--- The ring of every record that memory holds, and of every state that a call makes of it, has the blocks of a record.
+-- The ring of every record that memory holds, and of every state that a call makes of it, has two blocks.
 use mathlib.Core.Path.{◌≡◌, refl}
 use mathlib.Core.Bool.{Bool, true, false}
 use mathlib.Core.List.{List, [], ◌∷◌}
@@ -10,7 +10,7 @@ use Rattle.memory.specs.Words.{word}
 use Rattle.bits.specs.declared.refusal.Refusal.TheVariants as refusal
 use Rattle.rtp_header.specs.Header.{seq_of}
 use Rattle.replay.specs.Track.{Blocks}
-use Rattle.replay.specs.Window.{blocks}
+use Rattle.replay.specs.Window.{blocks, width}
 use Rattle.replay.proofs.Tracks.{fresh-blocks, send-blocks, receive-blocks}
 use Rattle.policies.specs.declared.policy.Way.{Way}
 use Rattle.policies.specs.declared.policy.Way.TheVariants.{Sending, Receiving}
@@ -56,7 +56,7 @@ EffectFits (give m b s) = Blocks blocks s
 
 state-fits : (way : Way) (r : Record) (seq : ℕ) → Blocks blocks r.replay → Blocks blocks (state_by way r seq)
 state-fits Sending r seq f = send-blocks blocks r.replay f r.rollover seq
-state-fits Receiving r seq f = receive-blocks blocks r.replay f r.window r.rollover seq
+state-fits Receiving r seq f = receive-blocks blocks r.replay f width r.rollover seq
 
 pub effect-fits : (setup : Setup) (buf : List ℕ) (n : ℕ) (way : Way) (found : Found) → FoundFits found → EffectFits (effect_by setup buf n way found)
 effect-fits setup buf n way found f =

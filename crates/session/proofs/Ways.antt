@@ -17,7 +17,7 @@ use Rattle.replay.specs.declared.answer.Judged.TheVariants.{Index, Refused as No
 use Rattle.replay.specs.Receive.{receive_of}
 use Rattle.replay.specs.Send.{send_of}
 use Rattle.replay.specs.State.{ReplayState}
-use Rattle.replay.specs.Window.{blocks}
+use Rattle.replay.specs.Window.{blocks, width}
 use Rattle.policies.specs.declared.policy.Way.{Way}
 use Rattle.policies.specs.declared.policy.Way.TheVariants.{Sending, Receiving}
 use Rattle.policies.specs.Judging.{judged_of}
@@ -32,7 +32,7 @@ use Rattle.session.specs.Memory.{size, decode}
 -- the replay state of a record once its packet, with this sequence number, is taken
 abbrev pub state_by : Way → Record → ℕ → ReplayState
 state_by Sending r seq = (send_of r.replay r.rollover seq).state
-state_by Receiving r seq = (receive_of blocks r.window r.replay r.rollover seq).state
+state_by Receiving r seq = (receive_of blocks width r.replay r.rollover seq).state
 
 module _ (setup : Setup) (buf : List ℕ) (n : ℕ) where
   -- STREAM and what comes after it; SHORT to ROOM; LENGTH
@@ -75,7 +75,7 @@ module _ (setup : Setup) (buf : List ℕ) (n : ℕ) where
     in-cases Sending none p = refused refusal.Stream
     in-cases Receiving none p = refused refusal.Stream
     in-cases Sending (some r) p = sent-cases r (send_of r.replay r.rollover (seq_of (take n buf))).judged (p r refl)
-    in-cases Receiving (some r) p = received-cases r (receive_of blocks r.window r.replay r.rollover (seq_of (take n buf))).judged (p r refl)
+    in-cases Receiving (some r) p = received-cases r (receive_of blocks width r.replay r.rollover (seq_of (take n buf))).judged (p r refl)
 
     read-cases : (way : Way) (h : Header) (found : Found) → P (in_by way found) → P (read_by way h found)
     read-cases Sending (Refused r) found p = refused r

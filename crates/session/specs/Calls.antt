@@ -77,10 +77,10 @@ abbrev pub added_in : List ℕ → Record → Made → Left
 added_in words new m =
     without_buffer m.number (pick (eqb m.number 0) (placed_at words (free_from 0 (decode words).records) new) words)
 
-unfoldable pub add_call : List ℕ → ℕ → ℕ → ℕ → ℕ → Left
-add_call words ssrc way rollover W =
+unfoldable pub add_call : List ℕ → ℕ → ℕ → ℕ → Left
+add_call words ssrc way rollover =
     pick (eqb (length words) size)
-    (pick (ltb way 2) (added_in words (fresh_record ssrc (way_of way) rollover W) (add_of (decode words) ssrc (way_of way) rollover W))
+    (pick (ltb way 2) (added_in words (fresh_record ssrc (way_of way) rollover) (add_of (decode words) ssrc (way_of way) rollover))
     (without_buffer wrong_way words))
     (without_buffer wrong_memory words)
 

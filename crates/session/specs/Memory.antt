@@ -26,7 +26,6 @@ abbrev pub record_layout : List ℕ
 record_layout =
     1  -- kind and SSRC
     ∷ 1  -- starting rollover
-    ∷ 1  -- window W
     ∷ (2 + (blocks + blocks))  -- replay state: whether it had a packet, highest index, stamps, bits
     ∷ []
 
@@ -36,11 +35,8 @@ the_head = 0
 abbrev pub the_rollover : ℕ
 the_rollover = 1
 
-abbrev pub the_window : ℕ
-the_window = 2
-
 abbrev pub the_replay : ℕ
-the_replay = 3
+the_replay = 2
 
 abbrev pub kind_number : Kind → ℕ
 kind_number Free = 0
@@ -58,19 +54,15 @@ abbrev pub record_fields : Record → List (List ℕ)
 record_fields r =
     (head_word r.kind r.ssrc ∷ [])
     ∷ (r.rollover ∷ [])
-    ∷ (r.window ∷ [])
     ∷ state_words r.replay
     ∷ []
 
--- Any word is a window, also one that no add stores: 0 makes every index old that is not above the highest, and with more than 1,024 the ring may forget an index that is
--- less than W behind.
 abbrev pub record_from : List (List ℕ) → Record
 record_from fields =
     record {
       ssrc = number fields the_head % 2 ^ 32;
       kind = kind_at (number fields the_head / 2 ^ 32);
       rollover = number fields the_rollover % 2 ^ 32;
-      window = number fields the_window;
       replay = state_in (get_or fields the_replay []);
     }
 

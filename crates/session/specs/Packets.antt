@@ -1,4 +1,4 @@
--- Document 01, "Numbers given back", 1 to 14, with document 02, CR 3 and CR 8: protect and unprotect in a buffer whose first n bytes are the packet.
+-- Document 01, "Numbers given back", 1 to 14, with document 02, CR 3: protect and unprotect in a buffer whose first n bytes are the packet.
 use Rattle.std.specs.Prelude.{Bool, List, ◌++◌, ℕ, ◌+◌, ◌-◌, ltb, length, take, drop}
 use Rattle.bits.specs.Pick.{pick}
 use Rattle.bits.specs.Refusals.{number_of}
@@ -13,7 +13,7 @@ use Rattle.replay.specs.declared.answer.Judged.TheVariants.{Index, Refused as No
 use Rattle.replay.specs.State.{ReplayState}
 use Rattle.replay.specs.Receive.{receive_of}
 use Rattle.replay.specs.Send.{send_of}
-use Rattle.replay.specs.Window.{blocks}
+use Rattle.replay.specs.Window.{blocks, width}
 use Rattle.packet_cipher.specs.declared.keys.Keys.{Keys}
 use Rattle.suites.specs.declared.suite.Suite.{Suite}
 use Rattle.suites.specs.Suites.{tag_length_of}
@@ -78,12 +78,12 @@ module _ (suite : Suite) (keys : Keys) (policy : Policy) (listed : ℕ → Bool)
       state)
       (refuse refusal.Tag)
 
-  -- STREAM; OLD and REPEAT by the window of this record
+  -- STREAM
   abbrev pub unprotect_in : Found → Effect
   unprotect_in none = refuse refusal.Stream
   unprotect_in (some r) =
-      unprotect_at (receive_of blocks r.window r.replay r.rollover (seq_of (take n buf))).judged
-      (receive_of blocks r.window r.replay r.rollover (seq_of (take n buf))).state
+      unprotect_at (receive_of blocks width r.replay r.rollover (seq_of (take n buf))).judged
+      (receive_of blocks width r.replay r.rollover (seq_of (take n buf))).state
 
   -- SHORT to LARGE
   abbrev pub unprotect_read : Header → Found → Effect

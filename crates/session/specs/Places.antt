@@ -9,7 +9,7 @@ use Rattle.session.specs.Records.{is_free, is_for}
 
 -- what is read past the end of a list of records
 abbrev pub no_record : Record
-no_record = record { ssrc = 0; kind = Free; rollover = 0; window = 0; replay = record { started = false; highest = 0; window = record { stamps = []; bits = [] } } }
+no_record = record { ssrc = 0; kind = Free; rollover = 0; replay = record { started = false; highest = 0; window = record { stamps = []; bits = [] } } }
 
 -- one of the 32
 abbrev pub Inside : Place → Type 0

@@ -31,18 +31,13 @@ is_free Receiver = false
 abbrev pub is_for : Record → ℕ → Way → Bool
 is_for r ssrc way = eqb r.ssrc ssrc && has_way r.kind way
 
--- the window that a record keeps of the one told at its add: a sender has none, and keeps 0
-abbrev pub window_for : Way → ℕ → ℕ
-window_for Sending W = 0
-window_for Receiving W = W
-
 -- a stream that has had no packet
-abbrev pub fresh_record : ℕ → Way → ℕ → ℕ → Record
-fresh_record ssrc way rollover W = record { ssrc = ssrc; kind = kind_of way; rollover = rollover; window = window_for way W; replay = fresh_of blocks }
+abbrev pub fresh_record : ℕ → Way → ℕ → Record
+fresh_record ssrc way rollover = record { ssrc = ssrc; kind = kind_of way; rollover = rollover; replay = fresh_of blocks }
 
 -- a place that holds no record
 abbrev pub free_place : Record
-free_place = record { ssrc = 0; kind = Free; rollover = 0; window = 0; replay = fresh_of blocks }
+free_place = record { ssrc = 0; kind = Free; rollover = 0; replay = fresh_of blocks }
 
 -- ---- all places
 
@@ -65,7 +60,7 @@ record_for l ssrc way = first_in (λ r. is_for r ssrc way) l
 
 -- and the records with another replay state in it
 abbrev pub with_replay : Record → ReplayState → Record
-with_replay r state = record { ssrc = r.ssrc; kind = r.kind; rollover = r.rollover; window = r.window; replay = state }
+with_replay r state = record { ssrc = r.ssrc; kind = r.kind; rollover = r.rollover; replay = state }
 
 abbrev pub store_for : List Record → ℕ → Way → ReplayState → List Record
 store_for l ssrc way state = change_first (λ r. is_for r ssrc way) (λ r. with_replay r state) l

@@ -1,4 +1,4 @@
--- Document 01, "The library's work", with document 02, CR 3 and CR 8: a session, what it is made from, and its places for stream records.
+-- Document 01, "The library's work", with document 02, CR 3: a session, what it is made from, and its places for stream records.
 use Rattle.std.specs.Prelude.{Bool, List, ℕ}
 use Rattle.replay.specs.State.{ReplayState}
 use Rattle.suites.specs.declared.suite.Suite.{Suite}
@@ -11,12 +11,11 @@ pub data Kind : Type 0 where
   Sender : Kind
   Receiver : Kind
 
--- `rollover` is the starting rollover, `window` the W of a receiver (CR 8): an index W or more behind the highest is old. A sender has none.
+-- `rollover` is the starting rollover
 pub record Record : Type 0 where
   pub ssrc : ℕ
   pub kind : Kind
   pub rollover : ℕ
-  pub window : ℕ
   pub replay : ReplayState
 
 -- Whether it was made, suite, policy, master key, master salt (a short one with its zeros, `Making.full_salt`) and ids, and the session keys derived from them. No call but make changes it.

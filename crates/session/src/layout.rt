@@ -27,15 +27,13 @@ pub const HASH: usize = 27;
 // The words before the records, the words of a record, and all of them.
 pub const FRONT: usize = 29;
 
-pub const EACH: usize = 39;
+pub const EACH: usize = 8;
 
-pub const SIZE: usize = 1277;
+pub const SIZE: usize = 285;
 
 // In a record.
 pub const ROLLOVER: usize = 1;
 
-pub const WINDOW: usize = 2;
+pub const REPLAY: usize = 2;
 
-pub const REPLAY: usize = 3;
-
-pub const REPLAY_END: usize = 39;
+pub const REPLAY_END: usize = 8;

@@ -41,8 +41,7 @@ use Rattle.front.specs.declared.open.Opened.{Opened}
 use Rattle.records.specs.Tracks.{record_in, judged_by}
 use Rattle.front.specs.Opening.{shut, no_memory, open_index, open_at, open_read, open_of}
 use Rattle.streams.specs.Steps.{effect_at, left_by}
-use Rattle.session_packet.proofs.Packets.{wire-length}
-use Rattle.streams.proofs.Effects.{not_taken}
+use Rattle.streams.proofs.Effects.{wire-length, not_taken}
 
 module _ (words buf : List ℕ) (n : ℕ) where
   abbrev s : Session

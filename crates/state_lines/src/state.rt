@@ -5,12 +5,12 @@ ghost use Rattle.session.specs.Memory.{each, size};
 use bits::big_endian::write32;
 use policies::uses::policy_number;
 use replay::ring::seen;
-use session::layout::{EACH, FRONT, REPLAY, REPLAY_END, SIZE, WINDOW};
+use session::layout::{EACH, FRONT, REPLAY, REPLAY_END, SIZE};
 use session::load::{is_made, load_policy, low};
 use text::words::count;
 use text_output::output::{put, put_between, put_decimal, put_hex, put_if_none, put_text, put_two};
 
-// One distance below the highest, if its index was accepted. The ring has every index that is less than the record's window behind the highest.
+// One distance below the highest, if its index was accepted. The ring has every index that is less than 64 behind the highest.
 fn put_if_seen(
     out: &mut [u8],
     at: usize,
@@ -31,21 +31,21 @@ fn put_if_seen(
     put_decimal(out, place, distance)
 }
 
-// The accepted indices less than `window` behind the highest, as distances below it; `-` for none.
-fn put_seen(out: &mut [u8], at: usize, ring: &[u64], highest: u64, window: u64) -> usize
+// The accepted indices less than `width` behind the highest, as distances below it; `-` for none.
+fn put_seen(out: &mut [u8], at: usize, ring: &[u64], highest: u64, width: u64) -> usize
     requires { 2 ≤ length ring.now }
 {
     let mut place = at;
     let mut distance: u64 = 0;
-    while distance < window {
+    while distance < width {
         place = put_if_seen(out, place, at, ring, highest, distance);
         distance += 1;
     }
     put_if_none(out, place, at)
 }
 
-// HIGHEST:SEEN. Nothing is seen by a stream that is sent: its window is 0.
-fn put_track(out: &mut [u8], at: usize, track: &[u64], window: u64) -> usize
+// HIGHEST:SEEN. Nothing is seen by a stream that is sent: its width is 0.
+fn put_track(out: &mut [u8], at: usize, track: &[u64], width: u64) -> usize
     requires { 4 ≤ length track.now }
 {
     if track[0] != 1 {
@@ -54,7 +54,7 @@ fn put_track(out: &mut [u8], at: usize, track: &[u64], window: u64) -> usize
     let highest = track[1];
     let mut place = put_decimal(out, at, highest);
     place = put(out, place, b':');
-    put_seen(out, place, &track[2..], highest, window)
+    put_seen(out, place, &track[2..], highest, width)
 }
 
 // The way of a record, by its first word; a free place has none.
@@ -64,6 +64,13 @@ fn way_letter(head: u64) -> u8 {
         2 => b'r',
         _ => b'-',
     }
+}
+
+fn width_of(letter: u8) -> u64 {
+    if letter == b'r' {
+        return 64;
+    }
+    0
 }
 
 // SSRC:WAY:HIGHEST:SEEN, after a semicolon where it is not the first; nothing for a free place.
@@ -79,7 +86,7 @@ fn put_record(out: &mut [u8], at: usize, first: usize, words: &[u64]) -> usize
     let mut place = put_between(out, at, first, b';');
     place = put_hex(out, place, &ssrc);
     place = put_text(out, place, &way);
-    put_track(out, place, &words[REPLAY..REPLAY_END], words[WINDOW])
+    put_track(out, place, &words[REPLAY..REPLAY_END], width_of(letter))
 }
 
 // The records in the order in which they were added: each new one takes the first free place.

@@ -10,16 +10,20 @@ use Rattle.bits.specs.Refusals.{number_of}
 use Rattle.bits.specs.declared.refusal.Refusal.{Refusal}
 use Rattle.bits.specs.declared.refusal.Refusal.TheVariants as refusal
 use Rattle.memory.specs.Words.{word}
+use Rattle.rtp_header.specs.declared.header.Header.TheVariants.{Read}
+use Rattle.rtp_header.specs.declared.header.Layout.{Layout}
 use Rattle.rtp_header.specs.Header.{seq_of, ssrc_of}
 use Rattle.rtp_elements.specs.Mask.{listed_in}
 use Rattle.replay.specs.declared.answer.Judged.{Judged}
 use Rattle.replay.specs.declared.answer.Judged.TheVariants.{Index, Refused as NoIndex}
-use Rattle.replay.specs.Window.{blocks}
+use Rattle.replay.specs.Window.{blocks, width}
 use Rattle.replay.proofs.Tracks.{received-state, sent-state}
 use Rattle.policies.specs.declared.policy.Policy.{Policy}
 use Rattle.policies.specs.declared.policy.Way.{Way}
 use Rattle.policies.specs.declared.policy.Way.TheVariants.{Sending, Receiving}
+use Rattle.policies.specs.Judging.{added_of, judged_of}
 use Rattle.wire.specs.Wire.{wire_of, restore_of, tag_fits}
+use Rattle.wire.proofs.Tagging.{judged-layout}
 use Rattle.session.specs.Calls.{Gives}
 use Rattle.suites.specs.declared.suite.Suite.{Suite}
 use Rattle.suites.specs.Suites.{tag_length_of}
@@ -27,10 +31,15 @@ use Rattle.session.specs.Memory.{suite_at, policy_at, setup_at}
 use Rattle.session.specs.Packets.{wire_length, Effect, refuse, give}
 use Rattle.records.specs.Tracks.{record_in, judged_by, committed_by}
 use Rattle.session.specs.Calls.{with_replay_at}
-use Rattle.session_packet.specs.Steps.{sent_as, received_as}
-use Rattle.streams.specs.Steps.{effect_at, left_by}
+use Rattle.streams.specs.Steps.{effect_at, left_by, sent_as, received_as}
 
 -- ---- the effect
+
+-- the protected length, in the layout that was read
+pub wire-length : (suite : Suite) (policy : Policy) (buf : List ℕ) (n : ℕ) (h : Layout) → judged_of Sending policy (tag_length_of suite) (take n buf) ≡ Read h
+    → wire_length suite policy buf n ≡ n + added_of Sending policy (tag_length_of suite) h
+wire-length suite policy buf n h read =
+    ap (λ (l : Layout). n + added_of Sending policy (tag_length_of suite) l) (sym (judged-layout Sending policy (tag_length_of suite) (take n buf) h read))
 
 module _ (words : List ℕ) (i : ℕ) (buf : List ℕ) (n : ℕ) where
   abbrev suite : Suite
@@ -58,7 +67,7 @@ module _ (words : List ℕ) (i : ℕ) (buf : List ℕ) (n : ℕ) where
     received-effect : judged_by Receiving (record_in words i) seq ≡ Index k
         → effect_at Receiving words i buf n
         ≡ pick (tag_fits suite (setup_at words).keys policy (ssrc_of (take n buf)) k (take n buf)) (give (n - tag_length_of suite) (received_as words k buf n) (committed_by Receiving (record_in words i) k)) (refuse refusal.Tag)
-    received-effect e = rw (e, received-state blocks (record_in words i).window (record_in words i).replay (record_in words i).rollover seq k e)
+    received-effect e = rw (e, received-state blocks width (record_in words i).replay (record_in words i).rollover seq k e)
 
   -- ---- how a core ends
 
@@ -82,3 +91,9 @@ module _ (words : List ℕ) (i : ℕ) (buf : List ℕ) (n : ℕ) where
           let p : tag_fits suite (setup_at words).keys policy (ssrc_of (take n buf)) k (take n buf) ≡ true = sym is_fits ∙ f in
           let a : after ≡ received_as words k buf n = rw f at written in
           rw (received-effect k index, p, a, stored, is_t) (record { answer = refl; buffer = refl; words = refl })
+
+-- ---- the packet under the session's keys
+
+-- the code's slice of the packet
+pub own-ssrc : (buf : List ℕ) (n ssrc : ℕ) → ssrc ≡ ssrc_of (take (n - 0) buf) → ssrc ≡ ssrc_of (take n buf)
+own-ssrc buf n ssrc e = e ∙ (let z : n - 0 ≡ n = omega arith in rw z)

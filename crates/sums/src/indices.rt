@@ -9,9 +9,9 @@ fn put(judged: Judged) {
     outcome::one(told.number as u32, b"index ", told.index);
 }
 
-// SEQ received where this is the highest accepted index, and the only one accepted. The window is 64.
+// SEQ received where this is the highest accepted index, and the only one accepted. 64 indices are remembered.
 pub fn received(highest: u64, sequence: u64) {
-    let mut track = [0u64; 36];
+    let mut track = [0u64; 6];
     accept(&mut track, highest);
     let arrival = receive(&track, 64, 0, (sequence % 65536) as u16);
     let judged = arrival.judged;

@@ -12,8 +12,8 @@ pub fn begin(session: &mut [u64], policy: u64, way: u32) {
     let key = [0u8; 16];
     let salt = [0u8; 14];
     make(session, &key, &salt, policy, &key, 0);
-    add(session, 0, way, 0, 64);
-    add(session, 0xcafebabe, way, 0, 64);
+    add(session, 0, way, 0);
+    add(session, 0xcafebabe, way, 0);
 }
 
 // The packet of n bytes that starts as the hex and goes on with zeros, in a buffer of this size.

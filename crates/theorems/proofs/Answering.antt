@@ -72,14 +72,14 @@ module _ (e : End) (buf : List ℕ) (n : ℕ) where
 
 -- ---- add
 
-add-settled : (s : Session) (e : End) (x : ℕ) (w : Way) (rollover W : ℕ) → Settled s (add e x w rollover W) (add_outcome (add_of s x w rollover W))
-add-settled s e x w rollover W =
-    add-cases s x w rollover W (λ m. Settled s (add e x w rollover W) (add_outcome m))
-    (λ r n. refused s (add e x w rollover W) (number_of r) (widen (15 ∷ 21 ∷ 17 ∷ 18 ∷ []) (numbers_for (add e x w rollover W)) refl (number_of r) n))
-    (λ m v h f. gave s (add e x w rollover W) _ refl refl)
+add-settled : (s : Session) (e : End) (x : ℕ) (w : Way) (rollover : ℕ) → Settled s (add e x w rollover) (add_outcome (add_of s x w rollover))
+add-settled s e x w rollover =
+    add-cases s x w rollover (λ m. Settled s (add e x w rollover) (add_outcome m))
+    (λ r n. refused s (add e x w rollover) (number_of r) (widen (15 ∷ 17 ∷ 18 ∷ []) (numbers_for (add e x w rollover)) refl (number_of r) n))
+    (λ m h f. gave s (add e x w rollover) _ refl refl)
 
 answered : (s : Session) (c : Call) → Settled s c (outcome_of s c)
-answered s (add e x w rollover W) = add-settled s e x w rollover W
+answered s (add e x w rollover) = add-settled s e x w rollover
 answered s (protect e buf n) = packet-answered e buf n Sending s
 answered s (unprotect e buf n) = packet-answered e buf n Receiving s
 
@@ -126,6 +126,5 @@ one-answer-each =
       number = made-number;
       taken = made-taken;
       refused = made-refused;
-      no_stream = λ s e ssrc way rollover W. rw e;
-      any-window = λ s ssrc rollover W other. refl;
+      no_stream = λ s e ssrc way rollover. rw e;
     }

@@ -4,7 +4,7 @@ use mathlib.Core.Bool.{Bool, true, false}
 use mathlib.Core.List.{List, [], ◌∷◌, ◌++◌}
 use Prim.Native.Nat.{ℕ, zero, suc, ◌+◌, ◌-◌, ◌*◌, ◌^◌, ◌<◌, ◌≤◌, min}
 use native.Mathlib.Omega.{arith}
-use borrow.Author.Tests.{eqb-false, le-ltb, not-false}
+use borrow.Author.Tests.{eqb-false, le-ltb}
 use lib.Dec.{eqb, leb}
 use lib.ListN.{length, get_or, take, drop, length-take}
 use lib.Seq.{take_at}
@@ -22,9 +22,9 @@ use Rattle.replay.specs.Receive.{Received, receive_of}
 use Rattle.replay.specs.State.{ReplayState, after_of}
 use Rattle.replay.specs.Answers.{told_of}
 use Rattle.replay.specs.Guess.{low_of}
-use Rattle.replay.specs.Window.{is_window, blocks}
+use Rattle.replay.specs.Window.{blocks, width}
 use Rattle.ledger.specs.Ledger.{highest_of, holds, given, refused, enter, Near}
-use Rattle.ledger.proofs.Ledger.{Remembers, fresh-remembers, Agrees, received-by-ledger, near-right, window-room}
+use Rattle.ledger.proofs.Ledger.{Remembers, fresh-remembers, Agrees, received-by-ledger, near-right}
 use Rattle.policies.specs.declared.policy.Policy.{Policy}
 use Rattle.policies.specs.declared.policy.Way.TheVariants.{Sending, Receiving}
 use Rattle.wire.specs.Claims.{RoundTrip}
@@ -50,6 +50,9 @@ use Rattle.theorems.proofs.Keeping.{equal-sets}
 ways-differ : Sending ≡ Receiving → ⊥
 ways-differ e = apart cc
 
+room : width + 64 ≤ 64 * blocks
+room = omega arith
+
 each_at : {A : Type 0} (P : A → Type 0) (l : List A) (d : A) (k : ℕ) → k < length l → Each P l → P (get_or l k d)
 each_at P [] d k h e = absurd (omega arith)
 each_at P (a ∷ l) d zero h e = e.0
@@ -69,10 +72,10 @@ enter-index W (k ∷ l) i e = entered (leb (i + W) (highest_of (k ∷ l))) (hold
 
 -- ---- a refusal leaves the state
 
-stays : (W : ℕ) (s : ReplayState) (rollover seq : ℕ) (r : Refusal) → (receive_of blocks W s rollover seq).judged ≡ NoIndex r
-    → (receive_of blocks W s rollover seq).state ≡ s
+stays : (s : ReplayState) (rollover seq : ℕ) (r : Refusal) → (receive_of blocks width s rollover seq).judged ≡ NoIndex r
+    → (receive_of blocks width s rollover seq).state ≡ s
 unfolding receive_of
-stays W s rollover seq r e = ap (after_of blocks s) e
+stays s rollover seq r e = ap (after_of blocks s) e
 
 -- ---- a sent packet unprotected
 
@@ -128,7 +131,7 @@ module _ (h : Setup) (x : ℕ) (s : Sent) (g : Good h x s) (buf : List ℕ) (n :
   at-index (NoIndex r) t e = refl
   at-index (Index i) t e = rw (e i refl, fits, restored)
 
-  pub unprotected : (r : Record) (o : Received) → receive_of blocks r.window r.replay r.rollover (low_of s.index) ≡ o
+  pub unprotected : (r : Record) (o : Received) → receive_of blocks width r.replay r.rollover (low_of s.index) ≡ o
       → ((i : ℕ) → o.judged ≡ Index i → i ≡ s.index)
       → unprotect_effect h.suite h.keys h.policy (listed_by h) buf n (some r) ≡ verdict o.judged o.state (n - tag_length_of h.suite) (shown ++ drop (n - tag_length_of h.suite) buf)
   unfolding unprotect_effect
@@ -155,38 +158,36 @@ module _ (h : Setup) (x : ℕ) (s : Sent) (g : Good h x s) (buf : List ℕ) (n :
 
 -- ---- along the list
 
-module _ (h : Setup) (x rollover W : ℕ) (room : W + 64 ≤ 64 * blocks) (large : rollover < 2 ^ 32) (sent : List Sent) (goods : Each (Good h x) sent) where
+module _ (h : Setup) (x rollover : ℕ) (large : rollover < 2 ^ 32) (sent : List Sent) (goods : Each (Good h x) sent) where
   -- a receiver's session between two of its calls
   record Follows (held : List ℕ) (s : Session) : Type 0 where
     rec : Record
     holds : Holds h x Receiving rec s
     start : rec.rollover ≡ rollover
-    width : rec.window ≡ W
-    remembers : Remembers blocks W rec.replay held
+    remembers : Remembers blocks width rec.replay held
 
   -- the premises from here on
   record Ahead (held : List ℕ) (arrivals : List Arrival) (others : List ℕ) : Type 0 where
     carried : Each (Carries sent) arrivals
     nothing-else : Each (λ (number : ℕ). number ≡ 0 → ⊥) others
-    near : AllNear W rollover sent held arrivals
+    near : AllNear rollover sent held arrivals
 
   -- an unprotect in the receiver's session; A and O are the arrivals and others after it
   module _ (s : Session) (buf : List ℕ) (n : ℕ) (held : List ℕ) (o : Follows held s) (A : Session → List Arrival) (O : Session → List ℕ)
-      (ih : (l : List ℕ) (t : Session) → Follows l t → Ahead l (A t) (O t) → AsTheLedger W h.policy sent l (A t)) where
+      (ih : (l : List ℕ) (t : Session) → Follows l t → Ahead l (A t) (O t) → AsTheLedger h.policy sent l (A t)) where
     abbrev outcome : Effect → Outcome
     outcome d = settled s buf (ssrc_of (take n buf)) Receiving d
 
     -- one that is unmarked
     by-other : (b : Bool) (d : Effect) → eqb (ssrc_of (take n buf)) x ≡ b
         → Ahead held (A (outcome d).session) (pick b ((outcome d).answer.number ∷ O (outcome d).session) (O (outcome d).session))
-        → AsTheLedger W h.policy sent held (A (outcome d).session)
+        → AsTheLedger h.policy sent held (A (outcome d).session)
     by-other false d e p =
         ih held (outcome d).session
         (record {
           rec = o.rec;
           holds = holds-settled h x Receiving o.rec s buf (ssrc_of (take n buf)) Receiving d (λ w y. eqb-false (ssrc_of (take n buf)) x e y) o.holds;
           start = o.start;
-          width = o.width;
           remembers = o.remembers;
         }) p
     by-other true (refuse r) e p = ih held s o (record { carried = p.carried; nothing-else = p.nothing-else.1; near = p.near })
@@ -205,17 +206,17 @@ module _ (h : Setup) (x rollover W : ℕ) (room : W + 64 ≤ 64 * blocks) (large
         good = each_at (Good h x) sent no_packet k known goods
 
         abbrev got : Received
-        got = receive_of blocks o.rec.window o.rec.replay o.rec.rollover (low_of pkt.index)
+        got = receive_of blocks width o.rec.replay o.rec.rollover (low_of pkt.index)
 
-        agrees : Agrees blocks W got.judged got.state (enter W held pkt.index)
+        agrees : Agrees blocks width got.judged got.state (enter width held pkt.index)
         agrees =
-            rw (o.start, o.width)
-            (received-by-ledger blocks W room o.rec.replay rollover held pkt.index o.remembers good.small (near-right rollover held pkt.index near))
+            rw o.start
+            (received-by-ledger blocks width room o.rec.replay rollover held pkt.index o.remembers good.small (near-right rollover held pkt.index near))
 
         same_index : (i : ℕ) → got.judged ≡ Index i → i ≡ pkt.index
         same_index i e =
-            let t : told_of (Index i) ≡ (enter W held pkt.index).told = ap told_of (sym e) ∙ agrees.told in
-            ap (λ (u : Told). u.index) t ∙ enter-index W held pkt.index (sym (ap (λ (u : Told). u.number) t))
+            let t : told_of (Index i) ≡ (enter width held pkt.index).told = ap told_of (sym e) ∙ agrees.told in
+            ap (λ (u : Told). u.index) t ∙ enter-index width held pkt.index (sym (ap (λ (u : Told). u.number) t))
 
         effect_is : done_by Receiving s buf n ≡ verdict got.judged got.state (n - tag_length_of h.suite) (given_back_of h.policy pkt.packet ++ drop (n - tag_length_of h.suite) buf)
         effect_is =
@@ -223,18 +224,18 @@ module _ (h : Setup) (x rollover W : ℕ) (room : W + 64 ≤ 64 * blocks) (large
             own ∙ unprotected h x pkt good buf n size starts o.rec got refl same_index
 
         record Settles (d : Effect) : Type 0 where
-          number : (outcome d).answer.number ≡ (enter W held pkt.index).told.number
+          number : (outcome d).answer.number ≡ (enter width held pkt.index).told.number
           right : (outcome d).answer.number ≡ 0 → Right h.policy pkt.packet (outcome d).answer
-          follows : Follows (enter W held pkt.index).held (outcome d).session
+          follows : Follows (enter width held pkt.index).held (outcome d).session
 
         settles : (j : Judged) → got.judged ≡ j
             → Settles (verdict j got.state (n - tag_length_of h.suite) (given_back_of h.policy pkt.packet ++ drop (n - tag_length_of h.suite) buf))
         settles (NoIndex r) e =
-            let kept : got.state ≡ o.rec.replay = stays o.rec.window o.rec.replay o.rec.rollover (low_of pkt.index) r e in
+            let kept : got.state ≡ o.rec.replay = stays o.rec.replay o.rec.rollover (low_of pkt.index) r e in
             record {
               number = ap (λ (u : Told). u.number) (ap told_of (sym e) ∙ agrees.told);
               right = λ z. absurd (omega (arith, above_zero r));
-              follows = record { rec = o.rec; holds = o.holds; start = o.start; width = o.width; remembers = rw kept at agrees.remembers };
+              follows = record { rec = o.rec; holds = o.holds; start = o.start; remembers = rw kept at agrees.remembers };
             }
         settles (Index i) e =
             record {
@@ -247,13 +248,12 @@ module _ (h : Setup) (x rollover W : ℕ) (room : W + 64 ≤ 64 * blocks) (large
                   found = rw (same-ssrc h x pkt good buf n size starts) (found-stored x Receiving got.state s.records o.rec o.holds.found);
                 };
                 start = o.start;
-                width = o.width;
                 remembers = agrees.remembers;
               };
             }
 
       by-arrival : (d : Effect) → done_by Receiving s buf n ≡ d → Ahead held (arrival d ∷ A (outcome d).session) (O (outcome d).session)
-          → AsTheLedger W h.policy sent held (arrival d ∷ A (outcome d).session)
+          → AsTheLedger h.policy sent held (arrival d ∷ A (outcome d).session)
       by-arrival d f p =
           let c : Carries sent (arrival d) = p.carried.0 in
           let near : Near rollover held pkt.index = p.near.0 in
@@ -262,25 +262,25 @@ module _ (h : Setup) (x rollover W : ℕ) (room : W + 64 ≤ 64 * blocks) (large
           subst (λ (v : Effect). Settles c.known c.size c.bytes near v) q (settles c.known c.size c.bytes near _ refl) in (
             t.number,
             t.right,
-            ih (enter W held pkt.index).held (outcome d).session t.follows
+            ih (enter width held pkt.index).held (outcome d).session t.follows
                 (record { carried = p.carried.1; nothing-else = p.nothing-else; near = p.near.1 }),
           )
 
     by-mark : (m : Mark) (d : Effect) → done_by Receiving s buf n ≡ d
         → Ahead held (arrival_at m (unprotect receiver buf n) (outcome d).answer (A (outcome d).session))
         (other_at x m (unprotect receiver buf n) (outcome d).answer (O (outcome d).session))
-        → AsTheLedger W h.policy sent held (arrival_at m (unprotect receiver buf n) (outcome d).answer (A (outcome d).session))
+        → AsTheLedger h.policy sent held (arrival_at m (unprotect receiver buf n) (outcome d).answer (A (outcome d).session))
     by-mark unmarked d f p = by-other (eqb (ssrc_of (take n buf)) x) d refl p
     by-mark (carries k) d f p = by-arrival k d f p
 
   all-follow : (cs : List Call) (marks : ℕ → Mark) (s : Sessions) (held : List ℕ) → Follows held s.at_receiver
-      → Ahead held (arrivals_of marks (events_of s cs)) (others_of x marks (events_of s cs)) → AsTheLedger W h.policy sent held (arrivals_of marks (events_of s cs))
+      → Ahead held (arrivals_of marks (events_of s cs)) (others_of x marks (events_of s cs)) → AsTheLedger h.policy sent held (arrivals_of marks (events_of s cs))
   unfolding protect_of unprotect_of
   all-follow [] marks s held o p = tt
-  all-follow (add sender y v r any ∷ cs) marks s held o p = all-follow cs (λ k. marks (suc k)) _ held o p
-  all-follow (add receiver y v r any ∷ cs) marks s held o p =
+  all-follow (add sender y v r ∷ cs) marks s held o p = all-follow cs (λ k. marks (suc k)) _ held o p
+  all-follow (add receiver y v r ∷ cs) marks s held o p =
       all-follow cs (λ k. marks (suc k)) _ held
-      (record { rec = o.rec; holds = holds-add h x Receiving o.rec s.at_receiver y v r any o.holds; start = o.start; width = o.width; remembers = o.remembers }) p
+      (record { rec = o.rec; holds = holds-add h x Receiving o.rec s.at_receiver y v r o.holds; start = o.start; remembers = o.remembers }) p
   all-follow (protect sender buf n ∷ cs) marks s held o p = all-follow cs (λ k. marks (suc k)) _ held o p
   all-follow (protect receiver buf n ∷ cs) marks s held o p =
       all-follow cs (λ k. marks (suc k)) _ held
@@ -288,7 +288,6 @@ module _ (h : Setup) (x rollover W : ℕ) (room : W + 64 ≤ 64 * blocks) (large
         rec = o.rec;
         holds = holds-settled h x Receiving o.rec s.at_receiver buf (ssrc_of (take n buf)) Sending (done_by Sending s.at_receiver buf n) (λ w y. ways-differ w) o.holds;
         start = o.start;
-        width = o.width;
         remembers = o.remembers;
       }) p
   all-follow (unprotect sender buf n ∷ cs) marks s held o p = all-follow cs (λ k. marks (suc k)) _ held o p
@@ -300,24 +299,24 @@ module _ (h : Setup) (x rollover W : ℕ) (room : W + 64 ≤ 64 * blocks) (large
       (marks 0) (done_by Receiving s.at_receiver buf n) refl p
 
   -- from the add on
-  from-add : (rest : List Event) → Behind h receiver x Receiving rollover W rest → (marks : ℕ → Mark) → Premises W x rollover sent marks rest
-      → AsTheLedger W h.policy sent [] (arrivals_of marks rest)
+  from-add : (rest : List Event) → Behind h receiver x Receiving rollover rest → (marks : ℕ → Mark) → Premises x rollover sent marks rest
+      → AsTheLedger h.policy sent [] (arrivals_of marks rest)
   from-add rest b marks p =
       let q = rw b.run at p in
       rw b.run
       (all-follow b.calls marks b.sessions []
-      (record { rec = fresh_record x Receiving rollover W; holds = b.holds; start = refl; width = refl; remembers = fresh-remembers blocks W (omega arith) })
+      (record { rec = fresh_record x Receiving rollover; holds = b.holds; start = refl; remembers = fresh-remembers blocks width (omega arith) })
       (record { carried = q.carried; nothing-else = q.nothing-else; near = q.near }))
 
 pub follow : (suite : Suite) (key salt : List ℕ) (policy : ℕ) (ids others : List ℕ) → EqualSets ids others → (calls : List Call) → Each Bytes calls
     → ArrivalsFollowTheLedger policy (events_of (just_made suite key salt policy ids others) calls)
-follow suite key salt policy ids others equal calls bytes x rollover any W i j large there here sent sent_is marks p =
+follow suite key salt policy ids others equal calls bytes x rollover i j large there here sent sent_is marks p =
     let start : Sessions = just_made suite key salt policy ids others in
     let events : List Event = events_of start calls in
     let h : Setup = setup suite key salt policy ids in
-    let b : Behind h receiver x Receiving rollover W (drop (suc j) events)
-    = behind-add h receiver x Receiving rollover W calls bytes start j (ap (λ (m : Made). m.session.setup) (sym (equal-sets.equal suite key salt policy ids others equal))) here in
-    let goods : Each (Good h x) sent = rw sent_is (all-sent suite key salt policy ids others calls bytes x rollover any i large there) in
-    subst (λ (q : Policy). AsTheLedger W q sent [] (arrivals_of marks (drop (suc j) events)))
+    let b : Behind h receiver x Receiving rollover (drop (suc j) events)
+    = behind-add h receiver x Receiving rollover calls bytes start j (ap (λ (m : Made). m.session.setup) (sym (equal-sets.equal suite key salt policy ids others equal))) here in
+    let goods : Each (Good h x) sent = rw sent_is (all-sent suite key salt policy ids others calls bytes x rollover i large there) in
+    subst (λ (q : Policy). AsTheLedger q sent [] (arrivals_of marks (drop (suc j) events)))
     (ap (λ (t : Setup). t.policy) (made-setup suite key salt policy ids b.made))
-    (from-add h x rollover W (window-room W (not-false (is_window W) b.taken)) large sent goods (drop (suc j) events) b marks p)
+    (from-add h x rollover large sent goods (drop (suc j) events) b marks p)

@@ -26,7 +26,7 @@ use Rattle.theorems.proofs.Holding.{setup-next}
 -- ---- a packet call as its buffer and its effect
 
 abbrev pub size_in : Call → ℕ
-size_in (add e x w r W) = 0
+size_in (add e x w r) = 0
 size_in (protect e buf n) = n
 size_in (unprotect e buf n) = n
 
@@ -37,7 +37,7 @@ abbrev pub effect_of : Session → Call → Effect
 effect_of s c = effect_in s.setup c (record_for s.records (ssrc_in c) (way_in c))
 
 pub packet-call : (s : Session) (c : Call) → IsPacketCall c → outcome_of s c ≡ settled s (buffer_of c) (ssrc_in c) (way_in c) (effect_of s c)
-packet-call s (add e x w r W) k = absurd k
+packet-call s (add e x w r) k = absurd k
 packet-call s (protect e buf n) k = outcome-is Sending s buf n
 packet-call s (unprotect e buf n) k = outcome-is Receiving s buf n
 

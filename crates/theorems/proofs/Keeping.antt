@@ -1,10 +1,10 @@
--- What holds of every session: its keys, its 32 places, no SSRC twice, and a window for each receiver. And sets of ids: equal ones give equal sessions.
+-- What holds of every session: its keys, its 32 places, and no SSRC twice. And sets of ids: equal ones give equal sessions.
 use mathlib.Core.Path.{◌≡◌, refl, sym, ap, ◌∙◌}
 use mathlib.Core.Bool.{Bool, true, false, not, ◌&&◌, ◌||◌}
 use mathlib.Core.List.{List, [], ◌∷◌}
 use Prim.Native.Nat.{ℕ, zero, suc, ◌+◌, ◌*◌, ◌≤◌, ◌<◌}
 use native.Mathlib.Omega.{arith}
-use borrow.Author.Tests.{ne_eqb, eqb-false, not-false}
+use borrow.Author.Tests.{ne_eqb, eqb-false}
 use lib.Dec.{eqb}
 use lib.ListN.{length, take, replicate}
 use Rattle.bits.proofs.Bits.{packed-ext}
@@ -13,9 +13,7 @@ use Rattle.bits.specs.Bits.{packed}
 use Rattle.bits.specs.Pick.{pick}
 use Rattle.bits.specs.declared.refusal.Refusal.TheVariants as refusal
 use Rattle.rtp_header.specs.Header.{ssrc_of}
-use Rattle.bits.specs.Lists.{Each}
 use Rattle.replay.specs.State.{ReplayState}
-use Rattle.replay.specs.Window.{is_window}
 use Rattle.policies.specs.declared.policy.Way.{Way}
 use Rattle.policies.specs.declared.policy.Way.TheVariants.{Sending, Receiving}
 use Rattle.session.specs.Session.{Record, Session}
@@ -25,14 +23,14 @@ use Rattle.suites.specs.Suites.{last_policy_of}
 use Rattle.suites.proofs.Lengths.{policy-last}
 use Rattle.policies.specs.Policies.{policy_number}
 use Rattle.session.specs.Making.{policy_of, counts, ids_of, unmade, session_of, make_of}
-use Rattle.session.specs.Adding.{bad_window, add_of}
+use Rattle.session.specs.Adding.{add_of}
 use Rattle.session.specs.Packets.{Effect, refuse, give, settled, protect_of, unprotect_of}
 use Rattle.session.proofs.Making.{policy-number, make-cases}
 use Rattle.session.proofs.Adding.{add-cases}
 use Rattle.session.proofs.Ids.{ids-listed}
 use Rattle.session.proofs.Ways.{done_by}
 use Rattle.theorems.specs.Lists.{End, sender, receiver, Call, add, protect, unprotect, end_of, Sessions, session_at, with_session, outcome_of, next, after, just_made, EqualSets}
-use Rattle.theorems.specs.Sessions.{NoSsrcTwice, HasWindow, Sound, SessionsAreSound, EqualSetsEqualSessions, WordsAreTheSet}
+use Rattle.theorems.specs.Sessions.{NoSsrcTwice, Sound, SessionsAreSound, EqualSetsEqualSessions, WordsAreTheSet}
 use Rattle.theorems.proofs.Records.{clash, or-false, free-for, stored-ssrc}
 use Rattle.theorems.proofs.Settling.{none-given}
 use Rattle.theorems.proofs.Holding.{setup-outcome}
@@ -101,27 +99,6 @@ length-changed test f (q ∷ l) = go (test q) (length-changed test f l)
     go true rec = refl
     go false rec = ap suc rec
 
--- ---- windows
-
-abbrev windowed : Record → Type 0
-windowed r = HasWindow r.kind r.window
-
-free-windows : (k : ℕ) → Each windowed (replicate k free_place)
-free-windows zero = tt
-free-windows (suc k) = (tt, free-windows k)
-
-fresh-window : (x : ℕ) (w : Way) (rollover W : ℕ) → bad_window w W ≡ false → windowed (fresh_record x w rollover W)
-fresh-window x Sending rollover W e = refl
-fresh-window x Receiving rollover W e = not-false (is_window W) e
-
-each-changed : (P : Record → Type 0) (test : Record → Bool) (f : Record → Record) → ((r : Record) → P r → P (f r)) → (l : List Record) → Each P l → Each P (change_first test f l)
-each-changed P test f keeps [] e = tt
-each-changed P test f keeps (q ∷ l) (e, es) = go (test q) (each-changed P test f keeps l es)
-  where
-    go : (b : Bool) → Each P (change_first test f l) → Each P (pick b (f q ∷ l) (q ∷ change_first test f l))
-    go true rec = (keeps q e, es)
-    go false rec = (e, rec)
-
 -- ---- the unmade session stays
 
 none_free : (k x : ℕ) (w : Way) → record_for (replicate k free_place) x w ≡ none
@@ -142,26 +119,25 @@ packet-left way s buf n e =
 -- ---- each call
 
 unmade-sound : Sound (session_of unmade)
-unmade-sound = record { policy = omega arith; keys = λ e. clash false e refl; not_made = λ e. refl; places = refl; once = once-free 32; windows = free-windows 32 }
+unmade-sound = record { policy = omega arith; keys = λ e. clash false e refl; not_made = λ e. refl; places = refl; once = once-free 32 }
 
 made : (suite : Suite) (key salt : List ℕ) (policy : ℕ) (ids : List ℕ) → Sound (make_of suite key salt policy ids).session
 made suite key salt policy ids =
     make-cases suite key salt policy ids (λ m. Sound m.session) (λ r n. unmade-sound)
-    (λ l. record { policy = fits l; keys = λ e. refl; not_made = λ e. clash true refl e; places = refl; once = once-free 32; windows = free-windows 32 })
+    (λ l. record { policy = fits l; keys = λ e. refl; not_made = λ e. clash true refl e; places = refl; once = once-free 32 })
   where
     fits : policy ≤ last_policy_of suite → policy_number (policy_of policy) ≤ last_policy_of suite
     fits l = let p = policy-last suite in rw (policy-number policy (omega arith)) l
 
-add-sound : (s : Session) (x : ℕ) (w : Way) (rollover W : ℕ) → Sound s → Sound (add_of s x w rollover W).session
-add-sound s x w rollover W o =
-    add-cases s x w rollover W (λ m. Sound m.session) (λ r n. o)
-    (λ m v h f. record {
+add-sound : (s : Session) (x : ℕ) (w : Way) (rollover : ℕ) → Sound s → Sound (add_of s x w rollover).session
+add-sound s x w rollover o =
+    add-cases s x w rollover (λ m. Sound m.session) (λ r n. o)
+    (λ m h f. record {
       policy = o.policy;
       keys = o.keys;
       not_made = λ z. clash _ m z;
-      places = length-changed (λ r. is_free r.kind) (λ r. fresh_record x w rollover W) s.records ∙ o.places;
-      once = once-placed (fresh_record x w rollover W) s.records h o.once;
-      windows = each-changed windowed (λ r. is_free r.kind) (λ r. fresh_record x w rollover W) (λ r q. fresh-window x w rollover W v) s.records o.windows;
+      places = length-changed (λ r. is_free r.kind) (λ r. fresh_record x w rollover) s.records ∙ o.places;
+      once = once-placed (fresh_record x w rollover) s.records h o.once;
     })
 
 settled-sound : (s : Session) (buf : List ℕ) (x : ℕ) (w : Way) (d : Effect) → (s ≡ session_of unmade → (settled s buf x w d).session ≡ s) → Sound s
@@ -174,12 +150,11 @@ settled-sound s buf x w (give m b t) f o =
       not_made = λ z. f (o.not_made z) ∙ o.not_made z;
       places = length-changed (λ r. is_for r x w) (λ r. with_replay r t) s.records ∙ o.places;
       once = once-stored x w t s.records o.once;
-      windows = each-changed windowed (λ r. is_for r x w) (λ r. with_replay r t) (λ r q. q) s.records o.windows;
     }
 
 kept : (s : Session) (c : Call) → Sound s → Sound (outcome_of s c).session
 unfolding protect_of unprotect_of
-kept s (add e x w rollover W) o = add-sound s x w rollover W o
+kept s (add e x w rollover) o = add-sound s x w rollover o
 kept s (protect e buf n) o = settled-sound s buf (ssrc_of (take n buf)) Sending (done_by Sending s buf n) (packet-left Sending s buf n) o
 kept s (unprotect e buf n) o = settled-sound s buf (ssrc_of (take n buf)) Receiving (done_by Receiving s buf n) (packet-left Receiving s buf n) o
 

@@ -31,7 +31,7 @@ use Rattle.theorems.specs.Lists.{sender, receiver, Call, add, protect, unprotect
 use Rattle.theorems.specs.Sent.{Sent, none_sent, sent_from, no_packet, SentAs, SentUnderItsIndex}
 use Rattle.theorems.specs.Arrivals.{Mark, Arrival, arrivals_of, others_of, Carries, Premises, Right, AsTheLedger}
 use Rattle.theorems.specs.DemandThree.{DemandThree}
-use Rattle.theorems.specs.Example.{key, salt, ids, others, voice, drums, calls, events, wire, sent_as, voice0, voice1, voice2, voice3, voice4, drums0, drums1, drums2, wrong_version, voice_sent, drums_sent, marked, voice_marks, drums_marks, PremisesAreMet, answer_at, HollowProgramsDiffer}
+use Rattle.theorems.specs.Example.{key, salt, ids, others, voice, drums, calls, events, wire, sent_as, voice0, voice1, voice2, voice3, voice4, drums0, wrong_version, voice_sent, drums_sent, marked, voice_marks, drums_marks, PremisesAreMet, answer_at, HollowProgramsDiffer}
 use Rattle.theorems.proofs.Records.{clash}
 use Rattle.theorems.proofs.Sending.{sent-under-its-index}
 use Rattle.theorems.proofs.DemandThree.{demand-three}
@@ -61,7 +61,7 @@ are-bytes (b ∷ l) e zero = ltb-true b 256 (and_left (ltb b 256) (are_bytes l) 
 are-bytes (b ∷ l) e (suc i) = are-bytes l (and_right (ltb b 256) (are_bytes l) e) i
 
 call-bytes : Call → Bool
-call-bytes (add e x w r W) = true
+call-bytes (add e x w r) = true
 call-bytes (protect e buf n) = are_bytes buf
 call-bytes (unprotect e buf n) = true
 
@@ -71,7 +71,7 @@ all-calls (c ∷ cs) = call-bytes c && all-calls cs
 
 one-call : (c : Call) → call-bytes c ≡ true → Bytes c
 unfolding call-bytes
-one-call (add e x w r W) h = tt
+one-call (add e x w r) h = tt
 one-call (protect e buf n) h = are-bytes buf h
 one-call (unprotect e buf n) h = tt
 
@@ -107,31 +107,30 @@ voice-pairs : map pair_of (sent_from voice 0 none_sent events)
 unfolding make_of add_of protect_of unprotect_of protect_effect unprotect_effect judged_of header_of bounded_of layout_of seq_of ssrc_of send_of next_of step_of
 voice-pairs = refl
 
-drums-pairs : map pair_of (sent_from drums 7 none_sent events)
-    ≡ record { index = 458761; packet = drums0 } ∷ record { index = 458762; packet = drums1 } ∷ record { index = 459461; packet = drums2 } ∷ []
+drums-pairs : map pair_of (sent_from drums 7 none_sent events) ≡ record { index = 458761; packet = drums0 } ∷ []
 unfolding make_of add_of protect_of unprotect_of protect_effect unprotect_effect judged_of header_of bounded_of layout_of seq_of ssrc_of send_of next_of step_of
 drums-pairs = refl
 
-pub adds : (get_or events 0 no_event ≡ added sender voice Sending 0 0) × (get_or events 1 no_event ≡ added receiver voice Receiving 0 64)
+pub adds : (get_or events 0 no_event ≡ added sender voice Sending 0) × (get_or events 1 no_event ≡ added receiver voice Receiving 0)
 unfolding make_of add_of
 adds = (refl, refl)
 
-pub adds-drums : (get_or events 2 no_event ≡ added sender drums Sending 7 65) × (get_or events 3 no_event ≡ added receiver drums Receiving 7 1024)
+pub adds-drums : (get_or events 2 no_event ≡ added sender drums Sending 7) × (get_or events 3 no_event ≡ added receiver drums Receiving 7)
 unfolding make_of add_of
 adds-drums = (refl, refl)
 
-under-index : (x rollover W i : ℕ) → rollover < 2 ^ 32 → get_or events i no_event ≡ added sender x Sending rollover W
+under-index : (x rollover i : ℕ) → rollover < 2 ^ 32 → get_or events i no_event ≡ added sender x Sending rollover
     → Each (SentAs CmHmac key salt 2 ids x) (sent_from x rollover none_sent events)
 unfolding SentUnderItsIndex
-under-index x rollover W i large q = sent-under-its-index CmHmac key salt 2 ids others calls bytes x rollover W i large q
+under-index x rollover i large q = sent-under-its-index CmHmac key salt 2 ids others calls bytes x rollover i large q
 
 pub sent : voice_sent ≡ sent_from voice 0 none_sent events
 sent =
-    sym (known-wires voice (sent_from voice 0 none_sent events) (under-index voice 0 0 0 (omega arith) adds.0) ∙ ap (map (sent_pair voice)) voice-pairs)
+    sym (known-wires voice (sent_from voice 0 none_sent events) (under-index voice 0 0 (omega arith) adds.0) ∙ ap (map (sent_pair voice)) voice-pairs)
 
 pub sent-drums : drums_sent ≡ sent_from drums 7 none_sent events
 sent-drums =
-    sym (known-wires drums (sent_from drums 7 none_sent events) (under-index drums 7 65 2 (omega arith) adds-drums.0) ∙ ap (map (sent_pair drums)) drums-pairs)
+    sym (known-wires drums (sent_from drums 7 none_sent events) (under-index drums 7 2 (omega arith) adds-drums.0) ∙ ap (map (sent_pair drums)) drums-pairs)
 
 -- ---- what arrives
 
@@ -150,17 +149,9 @@ wire-ssrc x i p b h =
 abbrev place : List ℕ → List ℕ
 place w = take (length w) (w ++ replicate 3 0)
 
-of-drums0 : ssrc_of (place (wire drums 458761 drums0)) ≡ drums
+of-drums : ssrc_of (place (wire drums 458761 drums0)) ≡ drums
 unfolding are_bytes judged_of header_of bounded_of layout_of ssrc_of
-of-drums0 = wire-ssrc drums 458761 drums0 refl refl
-
-of-drums1 : ssrc_of (place (wire drums 458762 drums1)) ≡ drums
-unfolding are_bytes judged_of header_of bounded_of layout_of ssrc_of
-of-drums1 = wire-ssrc drums 458762 drums1 refl refl
-
-of-drums2 : ssrc_of (place (wire drums 459461 drums2)) ≡ drums
-unfolding are_bytes judged_of header_of bounded_of layout_of ssrc_of
-of-drums2 = wire-ssrc drums 459461 drums2 refl refl
+of-drums = wire-ssrc drums 458761 drums0 refl refl
 
 junk-ssrc : ssrc_of (take (length wrong_version) wrong_version) ≡ voice
 unfolding ssrc_of
@@ -176,7 +167,7 @@ junk-number s = go s.setup.suite refl
     go Gcm e = rw e
 
 other-calls : others_of voice (marked voice_marks) (drop 2 events) ≡ 3 ∷ []
-other-calls = rw (of-drums0, drums1, drums2, of-drums1, of-drums2, junk-ssrc, junk-number _)
+other-calls = rw (of-drums, junk-ssrc, junk-number _)
 
 of-voice0 : ssrc_of (place (wire voice 65534 voice0)) ≡ voice
 unfolding are_bytes judged_of header_of bounded_of layout_of ssrc_of
@@ -201,7 +192,7 @@ carried : (l : List Sent) (k : ℕ) (a : Answer) → k < length l
     → Carries l (record { packet = k; buffer = (get_or l k no_packet).wire ++ replicate 3 0; n = length (get_or l k no_packet).wire; answer = a })
 carried l k a h = record { known = h; size = refl; bytes = starts (get_or l k no_packet).wire }
 
-pub met : Premises 64 voice 0 voice_sent (marked voice_marks) (drop 2 events)
+pub met : Premises voice 0 voice_sent (marked voice_marks) (drop 2 events)
 met =
     record {
       carried = (
@@ -221,31 +212,26 @@ met =
       near = (refl, ((omega arith, omega arith), ((omega arith, omega arith), ((omega arith, omega arith), ((omega arith, omega arith), ((omega arith, omega arith), tt))))));
     }
 
-pub met-drums : Premises 1024 drums 7 drums_sent (marked drums_marks) (drop 4 events)
-met-drums =
-    record {
-      carried = (carried drums_sent 0 _ (omega arith), (carried drums_sent 2 _ (omega arith), (carried drums_sent 1 _ (omega arith), (carried drums_sent 1 _ (omega arith), tt))));
-      nothing-else = rw other-calls-drums tt;
-      near = (refl, ((omega arith, omega arith), ((omega arith, omega arith), ((omega arith, omega arith), tt))));
-    }
+pub met-drums : Premises drums 7 drums_sent (marked drums_marks) (drop 4 events)
+met-drums = record { carried = (carried drums_sent 0 _ (omega arith), tt); nothing-else = rw other-calls-drums tt; near = (refl, tt) }
 
 -- ---- so the theorem gives the answers
 
-abbrev ledger_numbers : ℕ → List Sent → List ℕ → List Arrival → List ℕ
-ledger_numbers W l held [] = []
-ledger_numbers W l held (a ∷ rest) =
-    (enter W held (get_or l a.packet no_packet).index).told.number ∷ ledger_numbers W l (enter W held (get_or l a.packet no_packet).index).held rest
+abbrev ledger_numbers : List Sent → List ℕ → List Arrival → List ℕ
+ledger_numbers l held [] = []
+ledger_numbers l held (a ∷ rest) =
+    (enter 64 held (get_or l a.packet no_packet).index).told.number ∷ ledger_numbers l (enter 64 held (get_or l a.packet no_packet).index).held rest
 
-numbered : (W : ℕ) (policy : Policy) (l : List Sent) (held : List ℕ) (rest : List Arrival) → AsTheLedger W policy l held rest
-    → map (λ (a : Arrival). a.answer.number) rest ≡ ledger_numbers W l held rest
-numbered W policy l held [] e = refl
-numbered W policy l held (a ∷ rest) (e, f, g) = ap₂ (λ (n : ℕ) (ns : List ℕ). n ∷ ns) e (numbered W policy l _ rest g)
+numbered : (policy : Policy) (l : List Sent) (held : List ℕ) (rest : List Arrival) → AsTheLedger policy l held rest
+    → map (λ (a : Arrival). a.answer.number) rest ≡ ledger_numbers l held rest
+numbered policy l held [] e = refl
+numbered policy l held (a ∷ rest) (e, f, g) = ap₂ (λ (n : ℕ) (ns : List ℕ). n ∷ ns) e (numbered policy l _ rest g)
 
-followed : (x rollover any W i j : ℕ) → rollover < 2 ^ 32 → get_or events i no_event ≡ added sender x Sending rollover any → get_or events j no_event ≡ added receiver x Receiving rollover W
-    → (l : List Sent) → l ≡ sent_from x rollover none_sent events → (marks : ℕ → Mark) → Premises W x rollover l marks (drop (suc j) events)
-    → AsTheLedger W CryptexRequired l [] (arrivals_of marks (drop (suc j) events))
+followed : (x rollover i j : ℕ) → rollover < 2 ^ 32 → get_or events i no_event ≡ added sender x Sending rollover → get_or events j no_event ≡ added receiver x Receiving rollover
+    → (l : List Sent) → l ≡ sent_from x rollover none_sent events → (marks : ℕ → Mark) → Premises x rollover l marks (drop (suc j) events)
+    → AsTheLedger CryptexRequired l [] (arrivals_of marks (drop (suc j) events))
 unfolding DemandThree
-followed x rollover any W i j large there here l e marks p = (demand-three CmHmac key salt 2 ids others sets calls).ledger bytes x rollover any W i j large there here l e marks p
+followed x rollover i j large there here l e marks p = (demand-three CmHmac key salt 2 ids others sets calls).ledger bytes x rollover i j large there here l e marks p
 
 pub premises-are-met : PremisesAreMet
 premises-are-met =
@@ -258,14 +244,14 @@ premises-are-met =
       sent-drums = sent-drums;
       met = met;
       met-drums = met-drums;
-      numbers = numbered 64 CryptexRequired voice_sent [] (arrivals_of (marked voice_marks) (drop 2 events)) (followed voice 0 0 64 0 1 (omega arith) adds.0 adds.1 voice_sent sent (marked voice_marks) met);
-      numbers-drums = numbered 1024 CryptexRequired drums_sent [] (arrivals_of (marked drums_marks) (drop 4 events)) (followed drums 7 65 1024 2 3 (omega arith) adds-drums.0 adds-drums.1 drums_sent sent-drums (marked drums_marks) met-drums);
+      numbers = numbered CryptexRequired voice_sent [] (arrivals_of (marked voice_marks) (drop 2 events)) (followed voice 0 0 1 (omega arith) adds.0 adds.1 voice_sent sent (marked voice_marks) met);
+      numbers-drums = numbered CryptexRequired drums_sent [] (arrivals_of (marked drums_marks) (drop 4 events)) (followed drums 7 2 3 (omega arith) adds-drums.0 adds-drums.1 drums_sent sent-drums (marked drums_marks) met-drums);
     }
 
 -- ---- hollow programs differ
 
-followed-voice : AsTheLedger 64 CryptexRequired voice_sent [] (arrivals_of (marked voice_marks) (drop 2 events))
-followed-voice = followed voice 0 0 64 0 1 (omega arith) adds.0 adds.1 voice_sent sent (marked voice_marks) met
+followed-voice : AsTheLedger CryptexRequired voice_sent [] (arrivals_of (marked voice_marks) (drop 2 events))
+followed-voice = followed voice 0 0 1 (omega arith) adds.0 adds.1 voice_sent sent (marked voice_marks) met
 
 -- a packet that is sent as it is would be refused with PROFILE
 not-as-it-is : (x i : ℕ) (p : List ℕ) → are_bytes p ≡ true → header_number (judged_of Sending CryptexRequired 10 p) ≡ 0

@@ -19,23 +19,23 @@ use Rattle.theorems.specs.Memories.{Memories, memory_at, with_memory, way_number
 -- ---- one call
 
 module _ (words : List ℕ) (sized : length words ≡ size) where
-  add-answers : (ssrc rollover W : ℕ) (way : Way) → (add_call words ssrc (way_number way) rollover W).answer ≡ (add_outcome (add_of (decode words) ssrc way rollover W)).answer
+  add-answers : (ssrc rollover : ℕ) (way : Way) → (add_call words ssrc (way_number way) rollover).answer ≡ (add_outcome (add_of (decode words) ssrc way rollover)).answer
   unfolding add_call
-  add-answers ssrc rollover W Sending = rw (eq-eqb (length words) size sized)
-  add-answers ssrc rollover W Receiving = rw (eq-eqb (length words) size sized)
+  add-answers ssrc rollover Sending = rw (eq-eqb (length words) size sized)
+  add-answers ssrc rollover Receiving = rw (eq-eqb (length words) size sized)
 
   answers : (c : Call) → (left_by words c).answer ≡ (outcome_of (decode words) c).answer
-  answers (add e ssrc way rollover W) = add-answers ssrc rollover W way
+  answers (add e ssrc way rollover) = add-answers ssrc rollover way
   answers (protect e buf n) = call-answers words sized buf n Sending
   answers (unprotect e buf n) = call-answers words sized buf n Receiving
 
-  add_holds : (ssrc rollover W : ℕ) → (e : End) (way : Way) → Words32 (add e ssrc way rollover W) → Holds (add_call words ssrc (way_number way) rollover W) (add_of (decode words) ssrc way rollover W).session
+  add_holds : (ssrc rollover : ℕ) → (e : End) (way : Way) → Words32 (add e ssrc way rollover) → Holds (add_call words ssrc (way_number way) rollover) (add_of (decode words) ssrc way rollover).session
   unfolding add_call
-  add_holds ssrc rollover W e Sending w = rw (eq-eqb (length words) size sized) (added-holds words sized ssrc rollover W w.0 w.1 Sending)
-  add_holds ssrc rollover W e Receiving w = rw (eq-eqb (length words) size sized) (added-holds words sized ssrc rollover W w.0 w.1 Receiving)
+  add_holds ssrc rollover e Sending w = rw (eq-eqb (length words) size sized) (added-holds words sized ssrc rollover w.0 w.1 Sending)
+  add_holds ssrc rollover e Receiving w = rw (eq-eqb (length words) size sized) (added-holds words sized ssrc rollover w.0 w.1 Receiving)
 
   pub holds : (c : Call) → Words32 c → Holds (left_by words c) (outcome_of (decode words) c).session
-  holds (add e ssrc way rollover W) w = add_holds ssrc rollover W e way w
+  holds (add e ssrc way rollover) w = add_holds ssrc rollover e way w
   holds (protect e buf n) w = call-holds words sized buf n Sending
   holds (unprotect e buf n) w = call-holds words sized buf n Receiving
 

@@ -16,7 +16,7 @@ use Rattle.packet_cipher.proofs.Crypting.{and_left, and_right}
 use Rattle.policies.proofs.Layouts.{apart}
 use Rattle.session.specs.Session.{Kind, Free, Sender, Receiver, Record, Session}
 use Rattle.session.specs.Records.{kind_of, has_way, is_free, is_for, fresh_record, none, some, first_in, change_first, record_for, with_replay, store_for, has_ssrc, is_full, placed}
-use Rattle.session.specs.Adding.{bad_window, add_of}
+use Rattle.session.specs.Adding.{add_of}
 use Rattle.session.proofs.Adding.{add-cases}
 
 -- ---- tests
@@ -59,8 +59,8 @@ free-no-way Receiver w e = clash false e refl
 pub free-for : (r : Record) (x : ℕ) (w : Way) → is_free r.kind ≡ true → is_for r x w ≡ false
 free-for r x w e = and-false (eqb r.ssrc x) (has_way r.kind w) (λ p q. clash (has_way r.kind w) q (free-no-way r.kind w e))
 
-fresh-for : (x : ℕ) (w : Way) (rollover W : ℕ) → is_for (fresh_record x w rollover W) x w ≡ true
-fresh-for x w rollover W = rw (eq-eqb x x refl) (own-way w)
+fresh-for : (x : ℕ) (w : Way) (rollover : ℕ) → is_for (fresh_record x w rollover) x w ≡ true
+fresh-for x w rollover = rw (eq-eqb x x refl) (own-way w)
 
 -- ---- a record changed
 
@@ -133,21 +133,21 @@ none_found (q ∷ l) x w e = go (is_for q x w) refl (none_found l x w)
         clash _ f e
     go false h rec = rec (or-false (not (is_free q.kind) && eqb q.ssrc x) (has_ssrc l x) e)
 
-module _ (x : ℕ) (w : Way) (rollover W : ℕ) where
+module _ (x : ℕ) (w : Way) (rollover : ℕ) where
   new-step : (q : Record) (l : List Record) (b : Bool) → is_free q.kind ≡ b
-      → (is_full l ≡ false → record_for l x w ≡ none → record_for (placed l (fresh_record x w rollover W)) x w ≡ some (fresh_record x w rollover W))
+      → (is_full l ≡ false → record_for l x w ≡ none → record_for (placed l (fresh_record x w rollover)) x w ≡ some (fresh_record x w rollover))
       → (not b && is_full l) ≡ false → record_for (q ∷ l) x w ≡ none
-      → record_for (pick b (fresh_record x w rollover W ∷ l) (q ∷ placed l (fresh_record x w rollover W))) x w ≡ some (fresh_record x w rollover W)
-  new-step q l true h rec f e = rw (fresh-for x w rollover W)
+      → record_for (pick b (fresh_record x w rollover ∷ l) (q ∷ placed l (fresh_record x w rollover))) x w ≡ some (fresh_record x w rollover)
+  new-step q l true h rec f e = rw (fresh-for x w rollover)
   new-step q l false h rec f e = go (is_for q x w) refl e
     where
       go : (c : Bool) → is_for q x w ≡ c → pick c (some q) (record_for l x w) ≡ none
-          → record_for (q ∷ placed l (fresh_record x w rollover W)) x w ≡ some (fresh_record x w rollover W)
+          → record_for (q ∷ placed l (fresh_record x w rollover)) x w ≡ some (fresh_record x w rollover)
       go true k m = apart cc
       go false k m = rw k (rec f m)
 
   new-found : (l : List Record) → is_full l ≡ false → record_for l x w ≡ none
-      → record_for (placed l (fresh_record x w rollover W)) x w ≡ some (fresh_record x w rollover W)
+      → record_for (placed l (fresh_record x w rollover)) x w ≡ some (fresh_record x w rollover)
   new-found [] f e = clash true refl f
   new-found (q ∷ l) f e = new-step q l (is_free q.kind) refl (new-found l) f e
 
@@ -169,45 +169,42 @@ placed-ssrc x n (q ∷ l) e = placed-step x q n l (is_free q.kind) refl (placed-
 
 -- ---- add
 
-module _ (s : Session) (x : ℕ) (w : Way) (rollover W : ℕ) where
+module _ (s : Session) (x : ℕ) (w : Way) (rollover : ℕ) where
   -- P of the session after an add with a result
-  module _ (P : Session → Type 0) (done : s.setup.made ≡ true → bad_window w W ≡ false → has_ssrc s.records x ≡ false → is_full s.records ≡ false
-      → P (record { setup = s.setup; records = placed s.records (fresh_record x w rollover W) })) where
-    added : (add_of s x w rollover W).number ≡ 0 → P (add_of s x w rollover W).session
-    added = add-cases s x w rollover W (λ m. m.number ≡ 0 → P m.session) (λ r n z. absurd (omega (arith, above_zero r))) (λ m v h f z. done m v h f)
+  module _ (P : Session → Type 0) (done : s.setup.made ≡ true → has_ssrc s.records x ≡ false → is_full s.records ≡ false
+      → P (record { setup = s.setup; records = placed s.records (fresh_record x w rollover) })) where
+    added : (add_of s x w rollover).number ≡ 0 → P (add_of s x w rollover).session
+    added = add-cases s x w rollover (λ m. m.number ≡ 0 → P m.session) (λ r n z. absurd (omega (arith, above_zero r))) (λ m h f z. done m h f)
 
-  -- with a result, the new record is found; it was not there before, the session is made, and the window is one that this way takes
-  pub add-found : (add_of s x w rollover W).number ≡ 0 → record_for (add_of s x w rollover W).session.records x w ≡ some (fresh_record x w rollover W)
-  add-found = added (λ t. record_for t.records x w ≡ some (fresh_record x w rollover W)) (λ m v h f. new-found x w rollover W s.records f (none_found s.records x w h))
+  -- with a result, the new record is found; it was not there before, and the session is made
+  pub add-found : (add_of s x w rollover).number ≡ 0 → record_for (add_of s x w rollover).session.records x w ≡ some (fresh_record x w rollover)
+  add-found = added (λ t. record_for t.records x w ≡ some (fresh_record x w rollover)) (λ m h f. new-found x w rollover s.records f (none_found s.records x w h))
 
-  pub add-new : (add_of s x w rollover W).number ≡ 0 → has_ssrc s.records x ≡ false
-  add-new = added (λ t. has_ssrc s.records x ≡ false) (λ m v h f. h)
+  pub add-new : (add_of s x w rollover).number ≡ 0 → has_ssrc s.records x ≡ false
+  add-new = added (λ t. has_ssrc s.records x ≡ false) (λ m h f. h)
 
-  pub add-made : (add_of s x w rollover W).number ≡ 0 → s.setup.made ≡ true
-  add-made = added (λ t. s.setup.made ≡ true) (λ m v h f. m)
-
-  pub add-taken : (add_of s x w rollover W).number ≡ 0 → bad_window w W ≡ false
-  add-taken = added (λ t. bad_window w W ≡ false) (λ m v h f. v)
+  pub add-made : (add_of s x w rollover).number ≡ 0 → s.setup.made ≡ true
+  add-made = added (λ t. s.setup.made ≡ true) (λ m h f. m)
 
   -- with a result or not
-  pub add-setup : (add_of s x w rollover W).session.setup ≡ s.setup
-  add-setup = add-cases s x w rollover W (λ m. m.session.setup ≡ s.setup) (λ r n. refl) (λ m v h f. refl)
+  pub add-setup : (add_of s x w rollover).session.setup ≡ s.setup
+  add-setup = add-cases s x w rollover (λ m. m.session.setup ≡ s.setup) (λ r n. refl) (λ m h f. refl)
 
-  pub add-absent : (y : ℕ) → has_ssrc (add_of s x w rollover W).session.records y ≡ false → has_ssrc s.records y ≡ false
+  pub add-absent : (y : ℕ) → has_ssrc (add_of s x w rollover).session.records y ≡ false → has_ssrc s.records y ≡ false
   add-absent y =
-      add-cases s x w rollover W (λ m. has_ssrc m.session.records y ≡ false → has_ssrc s.records y ≡ false) (λ r n e. e)
-      (λ m v h f. placed-ssrc y (fresh_record x w rollover W) s.records)
+      add-cases s x w rollover (λ m. has_ssrc m.session.records y ≡ false → has_ssrc s.records y ≡ false) (λ r n e. e)
+      (λ m h f. placed-ssrc y (fresh_record x w rollover) s.records)
 
 -- a record that is there stays
-module _ (s : Session) (y : ℕ) (v : Way) (rollover W : ℕ) (x : ℕ) (w : Way) (r : Record) (e : record_for s.records x w ≡ some r) where
-  not_new : has_ssrc s.records y ≡ false → is_for (fresh_record y v rollover W) x w ≡ false
+module _ (s : Session) (y : ℕ) (v : Way) (rollover : ℕ) (x : ℕ) (w : Way) (r : Record) (e : record_for s.records x w ≡ some r) where
+  not_new : has_ssrc s.records y ≡ false → is_for (fresh_record y v rollover) x w ≡ false
   not_new h =
       and-false (eqb y x) (has_way (kind_of v) w) (λ f g.
       let z : y ≡ x = eqb-true y x f in
       let n : record_for s.records x w ≡ none = none_found s.records x w (rw z at h) in
       apart cc)
 
-  pub add-keeps : record_for (add_of s y v rollover W).session.records x w ≡ some r
+  pub add-keeps : record_for (add_of s y v rollover).session.records x w ≡ some r
   add-keeps =
-      add-cases s y v rollover W (λ m. record_for m.session.records x w ≡ some r) (λ q n. e)
-      (λ m k h f. old-found s.records (fresh_record y v rollover W) x w (not_new h) ∙ e)
+      add-cases s y v rollover (λ m. record_for m.session.records x w ≡ some r) (λ q n. e)
+      (λ m h f. old-found s.records (fresh_record y v rollover) x w (not_new h) ∙ e)

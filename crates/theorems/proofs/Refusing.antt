@@ -21,7 +21,7 @@ use Rattle.replay.specs.declared.answer.Judged.TheVariants.{Index, Refused as No
 use Rattle.replay.specs.State.{ReplayState, judge_of}
 use Rattle.replay.specs.Receive.{index_for, judge_index, receive_of}
 use Rattle.replay.specs.Send.{step_of, next_of, send_of}
-use Rattle.replay.specs.Window.{blocks, seen_in}
+use Rattle.replay.specs.Window.{blocks, width, seen_in}
 use Rattle.policies.specs.declared.policy.Policy.{Policy}
 use Rattle.policies.specs.declared.policy.Way.{Way}
 use Rattle.policies.specs.declared.policy.Way.TheVariants.{Sending, Receiving}
@@ -164,8 +164,8 @@ module _ (setup : Setup) (buf : List ℕ) (n : ℕ) where
   in-late Sending (some r) =
       sent-late (send_of r.replay r.rollover (seq_of (take n buf))).judged (state_by Sending r (seq_of (take n buf))) (ten-or-eleven r.replay r.rollover (seq_of (take n buf)))
   in-late Receiving (some r) =
-      received-late (receive_of blocks r.window r.replay r.rollover (seq_of (take n buf))).judged (state_by Receiving r (seq_of (take n buf)))
-      (eleven-to-thirteen blocks r.window r.replay r.rollover (seq_of (take n buf)))
+      received-late (receive_of blocks width r.replay r.rollover (seq_of (take n buf))).judged (state_by Receiving r (seq_of (take n buf)))
+      (eleven-to-thirteen blocks width r.replay r.rollover (seq_of (take n buf)))
 
   room-late : (room : Bool) (found : Found) → Refuses (late_numbers Sending) (pick room (refuse Room) (in_by setup buf n Sending found))
   room-late true found = refl

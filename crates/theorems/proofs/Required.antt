@@ -19,7 +19,7 @@ use Rattle.replay.specs.declared.answer.Judged.{Judged}
 use Rattle.replay.specs.declared.answer.Judged.TheVariants.{Index, Refused as NoIndex}
 use Rattle.replay.specs.State.{ReplayState}
 use Rattle.replay.specs.Receive.{receive_of}
-use Rattle.replay.specs.Window.{blocks}
+use Rattle.replay.specs.Window.{blocks, width}
 use Rattle.policies.specs.declared.policy.Policy.{Policy}
 use Rattle.policies.specs.declared.policy.Policy.TheVariants.{Plain, Cryptex, CryptexRequired, Mask}
 use Rattle.policies.specs.declared.policy.Way.TheVariants.{Receiving}
@@ -69,7 +69,7 @@ module _ (s : Session) (buf : List ℕ) (n : ℕ) (required : s.setup.policy ≡
     abbrev after : ℕ → List ℕ
     after i = given i ++ drop (n - tag_length_of setup.suite) buf
 
-    by-x : (i : ℕ) → (receive_of blocks r.window r.replay r.rollover (seq_of w)).judged ≡ Index i → (x : Bool) → (layout_of w).x ≡ x
+    by-x : (i : ℕ) → (receive_of blocks width r.replay r.rollover (seq_of w)).judged ≡ Index i → (x : Bool) → (layout_of w).x ≡ x
         → pick x (is_cryptex_tag (layout_of w).tag) (eqb (layout_of w).cc 0) ≡ true
         → Allowed (after i)
     by-x i j true x says =
@@ -93,12 +93,12 @@ module _ (s : Session) (buf : List ℕ) (n : ℕ) (required : s.setup.policy ≡
         })
     by-x i j false x says = inr (record { extension = sym (layout-x w) ∙ x; contributors = sym (layout-count w) ∙ eqb-true (layout_of w).cc 0 says })
 
-    by-tag : (i : ℕ) → (receive_of blocks r.window r.replay r.rollover (seq_of w)).judged ≡ Index i → (t : ReplayState) (fits : Bool)
+    by-tag : (i : ℕ) → (receive_of blocks width r.replay r.rollover (seq_of w)).judged ≡ Index i → (t : ReplayState) (fits : Bool)
         → AllowedBy (pick fits (give (n - tag_length_of setup.suite) (after i) t) (refuse refusal.Tag))
     by-tag i j t true = by-x i j (layout_of w).x refl (rw required at d.profile)
     by-tag i j t false = tt
 
-    by_index : (j : Judged) → (receive_of blocks r.window r.replay r.rollover (seq_of w)).judged ≡ j → (t : ReplayState)
+    by_index : (j : Judged) → (receive_of blocks width r.replay r.rollover (seq_of w)).judged ≡ j → (t : ReplayState)
         → AllowedBy (unprotect_at setup.suite setup.keys setup.policy (listed_by setup) buf n j t)
     by_index (NoIndex q) e t = tt
     by_index (Index i) e t = by-tag i e t (tag_fits setup.suite setup.keys setup.policy (ssrc_of w) i w)
@@ -162,7 +162,7 @@ module _ (s : Session) (buf : List ℕ) (n : ℕ) (uses : uses_cryptex s.setup.p
   same_in : Passed Receiving s.setup.policy (tag_length_of s.setup.suite) (take n buf) → (found : Found)
       → unprotect_in s.setup.suite s.setup.keys s.setup.policy (listed_by s.setup) buf n found ≡ unprotect_in s.setup.suite s.setup.keys Plain (listed_by s.setup) buf n found
   same_in d none = refl
-  same_in d (some r) = same_at d (receive_of blocks r.window r.replay r.rollover (seq_of (take n buf))).judged _
+  same_in d (some r) = same_at d (receive_of blocks width r.replay r.rollover (seq_of (take n buf))).judged _
 
   same_read : (found : Found) (h : Header) → judged_of Receiving s.setup.policy (tag_length_of s.setup.suite) (take n buf) ≡ h
       → unprotect_read s.setup.suite s.setup.keys s.setup.policy (listed_by s.setup) buf n h found ≡ unprotect_read s.setup.suite s.setup.keys Plain (listed_by s.setup) buf n h found

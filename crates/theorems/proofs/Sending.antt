@@ -187,9 +187,9 @@ module _ (h : Setup) (x rollover : ℕ) (large : rollover < 2 ^ 32) where
   all-good : (cs : List Call) → Each Bytes cs → (s : Sessions) (last : Last) → Keeps last s.at_sender → Each (Good h x) (sent_from x rollover last (events_of s cs))
   unfolding protect_of unprotect_of
   all-good [] b s last o = tt
-  all-good (add sender y v r any ∷ cs) b s last o =
-      all-good cs b.1 _ last (record { rec = o.rec; holds = holds-add h x Sending o.rec s.at_sender y v r any o.holds; start = o.start; knows = o.knows })
-  all-good (add receiver y v r any ∷ cs) b s last o = all-good cs b.1 _ last o
+  all-good (add sender y v r ∷ cs) b s last o =
+      all-good cs b.1 _ last (record { rec = o.rec; holds = holds-add h x Sending o.rec s.at_sender y v r o.holds; start = o.start; knows = o.knows })
+  all-good (add receiver y v r ∷ cs) b s last o = all-good cs b.1 _ last o
   all-good (protect sender buf n ∷ cs) b s last o =
       by-effect s.at_sender buf n b.0 last o
       (λ l t. sent_from x rollover l (events_of (record { at_sender = t; at_receiver = s.at_receiver }) cs))
@@ -206,10 +206,10 @@ module _ (h : Setup) (x rollover : ℕ) (large : rollover < 2 ^ 32) where
       })
   all-good (unprotect receiver buf n ∷ cs) b s last o = all-good cs b.1 _ last o
 
-  pub sent-good : (W : ℕ) (rest : List Event) → Behind h sender x Sending rollover W rest → Each (Good h x) (sent_from x rollover none_sent rest)
-  sent-good W rest a =
+  pub sent-good : (rest : List Event) → Behind h sender x Sending rollover rest → Each (Good h x) (sent_from x rollover none_sent rest)
+  sent-good rest a =
       rw a.run (all-good a.calls a.bytes a.sessions none_sent
-      (record { rec = fresh_record x Sending rollover W; holds = a.holds; start = refl; knows = refl }))
+      (record { rec = fresh_record x Sending rollover; holds = a.holds; start = refl; knows = refl }))
 
 -- ---- the whole list
 
@@ -221,13 +221,13 @@ module _ (suite : Suite) (key salt : List ℕ) (policy : ℕ) (ids : List ℕ) w
   made-setup =
       make-cases suite key salt policy ids (λ m. m.session.setup.made ≡ true → m.session.setup ≡ setup_of suite key salt policy ids) (λ r n e. clash false e refl) (λ l e. refl)
 
-  pub all-sent : (others : List ℕ) (calls : List Call) → Each Bytes calls → (x rollover W i : ℕ) → rollover < 2 ^ 32
-      → get_or (events_of (just_made suite key salt policy ids others) calls) i no_event ≡ added sender x Sending rollover W
+  pub all-sent : (others : List ℕ) (calls : List Call) → Each Bytes calls → (x rollover i : ℕ) → rollover < 2 ^ 32
+      → get_or (events_of (just_made suite key salt policy ids others) calls) i no_event ≡ added sender x Sending rollover
       → Each (Good setup x) (sent_from x rollover none_sent (events_of (just_made suite key salt policy ids others) calls))
-  all-sent others calls bytes x rollover W i large q =
-      rw (nothing-before x rollover W calls (just_made suite key salt policy ids others) i none_sent q)
-      (sent-good setup x rollover large W (drop (suc i) (events_of (just_made suite key salt policy ids others) calls))
-      (behind-add setup sender x Sending rollover W calls bytes (just_made suite key salt policy ids others) i refl q))
+  all-sent others calls bytes x rollover i large q =
+      rw (nothing-before x rollover calls (just_made suite key salt policy ids others) i none_sent q)
+      (sent-good setup x rollover large (drop (suc i) (events_of (just_made suite key salt policy ids others) calls))
+      (behind-add setup sender x Sending rollover calls bytes (just_made suite key salt policy ids others) i refl q))
 
   sent-as : (x : ℕ) → setup.made ≡ true → (l : List Sent) → Each (Good setup x) l → Each (SentAs suite key salt policy ids x) l
   sent-as x made [] g = tt
@@ -236,8 +236,8 @@ module _ (suite : Suite) (key salt : List ℕ) (policy : ℕ) (ids : List ℕ) w
 
 pub sent-under-its-index : SentUnderItsIndex
 unfolding SentUnderItsIndex
-sent-under-its-index suite key salt policy ids others calls bytes x rollover W i large q =
+sent-under-its-index suite key salt policy ids others calls bytes x rollover i large q =
     sent-as suite key salt policy ids x
-    (behind-add (setup suite key salt policy ids) sender x Sending rollover W calls bytes (just_made suite key salt policy ids others) i refl q).made
+    (behind-add (setup suite key salt policy ids) sender x Sending rollover calls bytes (just_made suite key salt policy ids others) i refl q).made
     (sent_from x rollover none_sent (events_of (just_made suite key salt policy ids others) calls))
-    (all-sent suite key salt policy ids others calls bytes x rollover W i large q)
+    (all-sent suite key salt policy ids others calls bytes x rollover i large q)

@@ -40,6 +40,6 @@ module _ (suite : Suite) (key salt : List ℕ) (policy : ℕ) (ids : List ℕ) (
 
 pub tags-are-the-standards : TagsAreTheStandards
 unfolding TagsAreTheStandards SentUnderItsIndex
-tags-are-the-standards suite key salt policy ids others calls bytes x rollover W i large q =
+tags-are-the-standards suite key salt policy ids others calls bytes x rollover i large q =
     all-tagged suite key salt policy ids x (sent_from x rollover none_sent (events_of (just_made suite key salt policy ids others) calls))
-    (sent-under-its-index suite key salt policy ids others calls bytes x rollover W i large q)
+    (sent-under-its-index suite key salt policy ids others calls bytes x rollover i large q)

@@ -30,7 +30,7 @@ use Rattle.theorems.proofs.Memories.{holds, sized-at, at-end, next-sized, next-d
 -- ---- in one memory
 
 small-packet : (c : Call) → IsPacketCall c → Words32 c
-small-packet (add e x w r W) k = absurd k
+small-packet (add e x w r) k = absurd k
 small-packet (protect e buf n) k = tt
 small-packet (unprotect e buf n) k = tt
 
@@ -41,12 +41,12 @@ abbrev effect_at : List ℕ → Call → Effect
 effect_at words c = effect_of (decode words) c
 
 words-after : (words : List ℕ) → length words ≡ size → (c : Call) → IsPacketCall c → (left_by words c).words ≡ placed_by words (place_of words c) (effect_at words c)
-words-after words sized (add e x w r W) k = absurd k
+words-after words sized (add e x w r) k = absurd k
 words-after words sized (protect e buf n) k = call-words words sized buf n Sending
 words-after words sized (unprotect e buf n) k = call-words words sized buf n Receiving
 
 fits_after : (words : List ℕ) → length words ≡ size → (c : Call) → IsPacketCall c → EffectFits (effect_at words c)
-fits_after words sized (add e x w r W) k = absurd k
+fits_after words sized (add e x w r) k = absurd k
 fits_after words sized (protect e buf n) k = done-fits words sized buf n Sending
 fits_after words sized (unprotect e buf n) k = done-fits words sized buf n Receiving
 

@@ -5,22 +5,21 @@ use Rattle.rtp_elements.specs.Mask.{among}
 use Rattle.suites.specs.declared.suite.Suite.{Suite}
 use Rattle.suites.specs.Suites.{salt_length_of, last_policy_of}
 use Rattle.policies.specs.declared.policy.Way.{Way}
-use Rattle.policies.specs.declared.policy.Way.TheVariants.{Sending}
 use Rattle.session.specs.Session.{Session}
 use Rattle.session.specs.Making.{unmade, session_of, make_of}
 use Rattle.session.specs.Adding.{add_of}
 use Rattle.session.specs.Packets.{Outcome}
 use Rattle.theorems.specs.Lists.{Call, add, protect, unprotect, outcome_of}
 
--- document 01, "Numbers given back", and document 02: 0 for a result, and the refusals of each call
+-- document 01, "Numbers given back": 0 for a result, and the refusals of each call
 abbrev pub numbers_for : Call → List ℕ
-numbers_for (add e ssrc way rollover W) = 0 ∷ 15 ∷ 21 ∷ 17 ∷ 18 ∷ []
+numbers_for (add e ssrc way rollover) = 0 ∷ 15 ∷ 17 ∷ 18 ∷ []
 numbers_for (protect e buf n) = 0 ∷ 1 ∷ 2 ∷ 3 ∷ 4 ∷ 5 ∷ 6 ∷ 7 ∷ 8 ∷ 9 ∷ 10 ∷ 11 ∷ []
 numbers_for (unprotect e buf n) = 0 ∷ 1 ∷ 2 ∷ 3 ∷ 4 ∷ 5 ∷ 6 ∷ 7 ∷ 9 ∷ 11 ∷ 12 ∷ 13 ∷ 14 ∷ []
 
 -- the buffer that a call is lent
 abbrev pub buffer_of : Call → List ℕ
-buffer_of (add e ssrc way rollover W) = []
+buffer_of (add e ssrc way rollover) = []
 buffer_of (protect e buf n) = buf
 buffer_of (unprotect e buf n) = buf
 
@@ -43,6 +42,4 @@ pub record OneAnswerEach : Type 0 where
       → (make_of suite key salt policy ids).number ≡ 0
   pub refused : (suite : Suite) (key salt : List ℕ) (policy : ℕ) (ids : List ℕ) → ((make_of suite key salt policy ids).number ≡ 0 → ⊥)
       → (make_of suite key salt policy ids).session ≡ session_of unmade
-  pub no_stream : (s : Session) → s.setup.made ≡ false → (ssrc : ℕ) (way : Way) (rollover W : ℕ) → (add_of s ssrc way rollover W).number ≡ 15
-  -- a sender's add comes out the same whatever its window
-  pub any-window : (s : Session) (ssrc rollover W other : ℕ) → add_of s ssrc Sending rollover W ≡ add_of s ssrc Sending rollover other
+  pub no_stream : (s : Session) → s.setup.made ≡ false → (ssrc : ℕ) (way : Way) (rollover : ℕ) → (add_of s ssrc way rollover).number ≡ 15

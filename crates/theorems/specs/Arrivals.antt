@@ -28,7 +28,7 @@ pub record Arrival : Type 0 where
 
 -- a marked unprotect in the receiver's session is an arrival
 abbrev pub arrival_at : Mark → Call → Answer → List Arrival → List Arrival
-arrival_at m (add e y way r W) a l = l
+arrival_at m (add e y way r) a l = l
 arrival_at m (protect e buf n) a l = l
 arrival_at m (unprotect sender buf n) a l = l
 arrival_at unmarked (unprotect receiver buf n) a l = l
@@ -36,7 +36,7 @@ arrival_at (carries k) (unprotect receiver buf n) a l = record { packet = k; buf
 
 -- the number of every other unprotect there on a packet with this SSRC
 abbrev pub other_at : ℕ → Mark → Call → Answer → List ℕ → List ℕ
-other_at ssrc m (add e y way r W) a l = l
+other_at ssrc m (add e y way r) a l = l
 other_at ssrc m (protect e buf n) a l = l
 other_at ssrc m (unprotect sender buf n) a l = l
 other_at ssrc unmarked (unprotect receiver buf n) a l = pick (eqb (ssrc_of (take n buf)) ssrc) (a.number ∷ l) l
@@ -59,18 +59,18 @@ pub record Carries (sent : List Sent) (a : Arrival) : Type 0 where
   pub size : a.n ≡ length (get_or sent a.packet no_packet).wire
   pub bytes : take a.n a.buffer ≡ (get_or sent a.packet no_packet).wire
 
--- "the first to arrive carries the starting rollover, and each later one is under 32,768 away from the highest accepted": the ledger's, whose window is W
-abbrev pub AllNear : ℕ → ℕ → List Sent → List ℕ → List Arrival → Type 0
-AllNear W rollover sent held [] = Unit {0}
-AllNear W rollover sent held (a ∷ l) =
+-- "the first to arrive carries the starting rollover, and each later one is under 32,768 away from the highest accepted": the ledger's
+abbrev pub AllNear : ℕ → List Sent → List ℕ → List Arrival → Type 0
+AllNear rollover sent held [] = Unit {0}
+AllNear rollover sent held (a ∷ l) =
     Near rollover held (get_or sent a.packet no_packet).index
-    × AllNear W rollover sent (enter W held (get_or sent a.packet no_packet).index).held l
+    × AllNear rollover sent (enter 64 held (get_or sent a.packet no_packet).index).held l
 
-pub record Premises (W ssrc rollover : ℕ) (sent : List Sent) (marks : ℕ → Mark) (events : List Event) : Type 0 where
+pub record Premises (ssrc rollover : ℕ) (sent : List Sent) (marks : ℕ → Mark) (events : List Event) : Type 0 where
   pub carried : Each (Carries sent) (arrivals_of marks events)
   -- "every other unprotect there after that add, on a packet with this SSRC, is refused"
   pub nothing-else : Each (λ (number : ℕ). number ≡ 0 → ⊥) (others_of ssrc marks events)
-  pub near : AllNear W rollover sent [] (arrivals_of marks events)
+  pub near : AllNear rollover sent [] (arrivals_of marks events)
 
 -- ---- the conclusion
 
@@ -83,23 +83,22 @@ pub record Right (policy : Policy) (p : List ℕ) (a : Answer) : Type 0 where
       × (take a.length a.buffer
       ≡ take (12 + 4 * count_of p) (set p 0 (get_or p 0 0 + 16)) ++ (0xBE ∷ 0xDE ∷ 0x00 ∷ 0x00 ∷ drop (12 + 4 * count_of p) p))
 
--- Each arrival in turn, beside the ledger, which holds every index given back and forgets none, and calls old what is W or more below its highest: its number is the ledger's, 0, 12 or 13, and with 0 it
+-- Each arrival in turn, beside the ledger, which holds every index given back and forgets none: its number is the ledger's, 0, 12 or 13, and with 0 it
 -- is given back right.
-abbrev pub AsTheLedger : ℕ → Policy → List Sent → List ℕ → List Arrival → Type 0
-AsTheLedger W policy sent held [] = Unit {0}
-AsTheLedger W policy sent held (a ∷ l) =
-    (a.answer.number ≡ (enter W held (get_or sent a.packet no_packet).index).told.number)
+abbrev pub AsTheLedger : Policy → List Sent → List ℕ → List Arrival → Type 0
+AsTheLedger policy sent held [] = Unit {0}
+AsTheLedger policy sent held (a ∷ l) =
+    (a.answer.number ≡ (enter 64 held (get_or sent a.packet no_packet).index).told.number)
     × (a.answer.number ≡ 0 → Right policy (get_or sent a.packet no_packet).packet a.answer)
-    × AsTheLedger W policy sent (enter W held (get_or sent a.packet no_packet).index).held l
+    × AsTheLedger policy sent (enter 64 held (get_or sent a.packet no_packet).index).held l
 
 -- In these events: for every stream that is added at both ends with equal starting rollover, in call i to send at the sender's and in call j to receive
--- at the receiver's, and every marking of the calls after j that meets the premises, each arrival is as the ledger says, whose window is the one told in
--- call j (document 02, CR 8). What was told in call i does not matter: only the receiver has a window.
+-- at the receiver's, and every marking of the calls after j that meets the premises, each arrival is as the ledger says.
 abbrev pub ArrivalsFollowTheLedger : ℕ → List Event → Type 0
 ArrivalsFollowTheLedger policy events =
-    (ssrc rollover any W i j : ℕ) → rollover < 2 ^ 32
-    → get_or events i no_event ≡ added sender ssrc Sending rollover any
-    → get_or events j no_event ≡ added receiver ssrc Receiving rollover W
+    (ssrc rollover i j : ℕ) → rollover < 2 ^ 32
+    → get_or events i no_event ≡ added sender ssrc Sending rollover
+    → get_or events j no_event ≡ added receiver ssrc Receiving rollover
     → (sent : List Sent) → sent ≡ sent_from ssrc rollover none_sent events
-    → (marks : ℕ → Mark) → Premises W ssrc rollover sent marks (drop (suc j) events)
-    → AsTheLedger W (policy_of policy) sent [] (arrivals_of marks (drop (suc j) events))
+    → (marks : ℕ → Mark) → Premises ssrc rollover sent marks (drop (suc j) events)
+    → AsTheLedger (policy_of policy) sent [] (arrivals_of marks (drop (suc j) events))

@@ -1,5 +1,5 @@
--- The premises are met: a list of calls with the first suite, under policy 2 with two streams, one received with a window of 64 and one of 1,024, a loss, repeats, a late packet, one
--- 699 behind, an old one, a packet that is refused before any key is used, and indices past 65,535. The wire bytes are not computed: they stay `wire_of`.
+-- The premises are met: a list of calls with the first suite, under policy 2 with two streams, a loss, a repeat, a late packet, an old one, a packet that is refused before any
+-- key is used, and indices past 65,535. The wire bytes are not computed: they stay `wire_of`.
 use Rattle.std.specs.Prelude.{◌≡◌, List, [], ◌∷◌, ◌++◌, map, ℕ, length, get_or, drop, replicate}
 use Rattle.bits.specs.Lists.{Each}
 use Rattle.rtp_elements.specs.Mask.{listed_in}
@@ -27,7 +27,7 @@ ids = 3 ∷ 0 ∷ 5 ∷ []
 abbrev pub others : List ℕ
 others = 5 ∷ 3 ∷ 3 ∷ []
 
--- two streams: SSRC 01020304 from rollover 0, SSRC 0A0B0C0D from rollover 7. The windows at the sender's end are any.
+-- two streams: SSRC 01020304 from rollover 0, SSRC 0A0B0C0D from rollover 7
 abbrev pub voice : ℕ
 voice = 0x01020304
 
@@ -57,18 +57,8 @@ voice3 = packet_of 0x80 (0 ∷ 200 ∷ []) voice_ssrc []
 abbrev pub voice4 : List ℕ
 voice4 = packet_of 0x80 (0 ∷ 201 ∷ []) voice_ssrc (71 ∷ [])
 
--- sequence numbers 9, 10 and 709
-abbrev pub drums_ssrc : List ℕ
-drums_ssrc = 10 ∷ 11 ∷ 12 ∷ 13 ∷ []
-
 abbrev pub drums0 : List ℕ
-drums0 = packet_of 0x80 (0 ∷ 9 ∷ []) drums_ssrc (72 ∷ 73 ∷ [])
-
-abbrev pub drums1 : List ℕ
-drums1 = packet_of 0x80 (0 ∷ 10 ∷ []) drums_ssrc (74 ∷ [])
-
-abbrev pub drums2 : List ℕ
-drums2 = packet_of 0x80 (2 ∷ 197 ∷ []) drums_ssrc []
+drums0 = packet_of 0x80 (0 ∷ 9 ∷ []) (10 ∷ 11 ∷ 12 ∷ 13 ∷ []) (72 ∷ 73 ∷ [])
 
 -- of version 0, and otherwise like a packet of the voice
 abbrev pub wrong_version : List ℕ
@@ -87,8 +77,8 @@ arriving w = unprotect receiver (w ++ replicate 3 0) (length w)
 -- in call 8 the voice sends the packet that is lost
 abbrev pub calls : List Call
 calls =
-    add sender voice Sending 0 0 ∷ add receiver voice Receiving 0 64
-    ∷ add sender drums Sending 7 65 ∷ add receiver drums Receiving 7 1024
+    add sender voice Sending 0 ∷ add receiver voice Receiving 0
+    ∷ add sender drums Sending 7 ∷ add receiver drums Receiving 7
     ∷ sending voice0 ∷ sending drums0 ∷ sending voice1 ∷ sending voice2 ∷ sending voice3 ∷ sending voice4
     ∷ arriving (wire voice 65534 voice0)
     ∷ arriving (wire voice 65536 voice2)
@@ -98,10 +88,6 @@ calls =
     ∷ arriving (wire voice 65536 voice2)
     ∷ arriving (wire voice 65737 voice4)
     ∷ arriving (wire voice 65534 voice0)
-    ∷ sending drums1 ∷ sending drums2
-    ∷ arriving (wire drums 459461 drums2)
-    ∷ arriving (wire drums 458762 drums1)
-    ∷ arriving (wire drums 458762 drums1)
     ∷ []
 
 abbrev pub events : List Event
@@ -117,9 +103,7 @@ voice_marks =
     ∷ carries 0 ∷ carries 2 ∷ unmarked ∷ unmarked ∷ carries 1 ∷ carries 2 ∷ carries 4 ∷ carries 0 ∷ []
 
 abbrev pub drums_marks : List Mark
-drums_marks =
-    unmarked ∷ unmarked ∷ unmarked ∷ unmarked ∷ unmarked ∷ unmarked ∷ unmarked ∷ unmarked ∷ unmarked ∷ carries 0
-    ∷ unmarked ∷ unmarked ∷ unmarked ∷ unmarked ∷ unmarked ∷ unmarked ∷ carries 2 ∷ carries 1 ∷ carries 1 ∷ []
+drums_marks = unmarked ∷ unmarked ∷ unmarked ∷ unmarked ∷ unmarked ∷ unmarked ∷ unmarked ∷ unmarked ∷ unmarked ∷ carries 0 ∷ []
 
 abbrev pub sent_as : ℕ → ℕ → List ℕ → Sent
 sent_as ssrc i p = record { index = i; packet = p; wire = wire ssrc i p }
@@ -128,21 +112,20 @@ abbrev pub voice_sent : List Sent
 voice_sent = sent_as voice 65534 voice0 ∷ sent_as voice 65535 voice1 ∷ sent_as voice 65536 voice2 ∷ sent_as voice 65736 voice3 ∷ sent_as voice 65737 voice4 ∷ []
 
 abbrev pub drums_sent : List Sent
-drums_sent = sent_as drums 458761 drums0 ∷ sent_as drums 458762 drums1 ∷ sent_as drums 459461 drums2 ∷ []
+drums_sent = sent_as drums 458761 drums0 ∷ []
 
 pub record PremisesAreMet : Type 0 where
   pub sets : EqualSets ids others
   pub bytes : Each Bytes calls
-  pub adds : (get_or events 0 no_event ≡ added sender voice Sending 0 0) × (get_or events 1 no_event ≡ added receiver voice Receiving 0 64)
-  pub adds-drums : (get_or events 2 no_event ≡ added sender drums Sending 7 65) × (get_or events 3 no_event ≡ added receiver drums Receiving 7 1024)
+  pub adds : (get_or events 0 no_event ≡ added sender voice Sending 0) × (get_or events 1 no_event ≡ added receiver voice Receiving 0)
+  pub adds-drums : (get_or events 2 no_event ≡ added sender drums Sending 7) × (get_or events 3 no_event ≡ added receiver drums Receiving 7)
   pub sent : voice_sent ≡ sent_from voice 0 none_sent events
   pub sent-drums : drums_sent ≡ sent_from drums 7 none_sent events
-  pub met : Premises 64 voice 0 voice_sent (marked voice_marks) (drop 2 events)
-  pub met-drums : Premises 1024 drums 7 drums_sent (marked drums_marks) (drop 4 events)
+  pub met : Premises voice 0 voice_sent (marked voice_marks) (drop 2 events)
+  pub met-drums : Premises drums 7 drums_sent (marked drums_marks) (drop 4 events)
   -- so, by `DemandThree`, these are the numbers: given back, given back, late and given back, repeated, given back, old
   pub numbers : map (λ (a : Arrival). a.answer.number) (arrivals_of (marked voice_marks) (drop 2 events)) ≡ 0 ∷ 0 ∷ 0 ∷ 13 ∷ 0 ∷ 12 ∷ []
-  -- given back, given back, 699 behind and given back, repeated
-  pub numbers-drums : map (λ (a : Arrival). a.answer.number) (arrivals_of (marked drums_marks) (drop 4 events)) ≡ 0 ∷ 0 ∷ 0 ∷ 13 ∷ []
+  pub numbers-drums : map (λ (a : Arrival). a.answer.number) (arrivals_of (marked drums_marks) (drop 4 events)) ≡ 0 ∷ []
 
 -- ---- and hollow programs would answer otherwise
 

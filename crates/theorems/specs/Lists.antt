@@ -14,14 +14,14 @@ pub data End : Type 0 where
   sender : End
   receiver : End
 
--- add: SSRC, way, starting rollover and window. A packet call: what its buffer holds, and the length n that it is told.
+-- add: SSRC, way and starting rollover. A packet call: what its buffer holds, and the length n that it is told.
 pub data Call : Type 0 where
-  add : End → ℕ → Way → ℕ → ℕ → Call
+  add : End → ℕ → Way → ℕ → Call
   protect : End → List ℕ → ℕ → Call
   unprotect : End → List ℕ → ℕ → Call
 
 abbrev pub end_of : Call → End
-end_of (add e ssrc way rollover W) = e
+end_of (add e ssrc way rollover) = e
 end_of (protect e buf n) = e
 end_of (unprotect e buf n) = e
 
@@ -54,7 +54,7 @@ abbrev pub add_outcome : Made → Outcome
 add_outcome m = record { answer = record { number = m.number; length = 0; buffer = [] }; session = m.session }
 
 abbrev pub outcome_of : Session → Call → Outcome
-outcome_of s (add e ssrc way rollover W) = add_outcome (add_of s ssrc way rollover W)
+outcome_of s (add e ssrc way rollover) = add_outcome (add_of s ssrc way rollover)
 outcome_of s (protect e buf n) = protect_of s buf n
 outcome_of s (unprotect e buf n) = unprotect_of s buf n
 
@@ -77,11 +77,11 @@ abbrev pub answer_in : Event → Answer
 answer_in (event c a) = a
 
 -- the event of an add with a result; and what is read past the end of the events: a refused add, so that it is never taken for one
-abbrev pub added : End → ℕ → Way → ℕ → ℕ → Event
-added e ssrc way rollover W = event (add e ssrc way rollover W) (record { number = 0; length = 0; buffer = [] })
+abbrev pub added : End → ℕ → Way → ℕ → Event
+added e ssrc way rollover = event (add e ssrc way rollover) (record { number = 0; length = 0; buffer = [] })
 
 abbrev pub no_event : Event
-no_event = event (add sender 0 Sending 0 0) (record { number = 15; length = 0; buffer = [] })
+no_event = event (add sender 0 Sending 0) (record { number = 15; length = 0; buffer = [] })
 
 abbrev pub events_of : Sessions → List Call → List Event
 events_of s [] = []
@@ -101,6 +101,6 @@ run s calls = record { events = events_of s calls; left = after s calls }
 
 -- What is handed to protect is bytes. Definitions speak of numbers, so this has to be said; the code's types say it.
 abbrev pub Bytes : Call → Type 0
-Bytes (add e ssrc way rollover W) = Unit {0}
+Bytes (add e ssrc way rollover) = Unit {0}
 Bytes (protect e buf n) = (i : ℕ) → get_or buf i 0 < 256
 Bytes (unprotect e buf n) = Unit {0}

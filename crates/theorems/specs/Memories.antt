@@ -27,7 +27,7 @@ way_number Sending = 0
 way_number Receiving = 1
 
 abbrev pub left_by : List ℕ → Call → Left
-left_by words (add e ssrc way rollover W) = add_call words ssrc (way_number way) rollover W
+left_by words (add e ssrc way rollover) = add_call words ssrc (way_number way) rollover
 left_by words (protect e buf n) = protect_call words buf n
 left_by words (unprotect e buf n) = unprotect_call words buf n
 
@@ -62,7 +62,7 @@ pub record Sized (m : Memories) : Type 0 where
 
 -- SSRC and starting rollover are 32-bit numbers, as the code's types say.
 abbrev pub Words32 : Call → Type 0
-Words32 (add e ssrc way rollover W) = (ssrc < 2 ^ 32) × (rollover < 2 ^ 32)
+Words32 (add e ssrc way rollover) = (ssrc < 2 ^ 32) × (rollover < 2 ^ 32)
 Words32 (protect e buf n) = Unit {0}
 Words32 (unprotect e buf n) = Unit {0}
 

@@ -9,17 +9,17 @@ use Rattle.theorems.specs.Lists.{Call, add, protect, unprotect, end_of, event, n
 
 -- "Packet calls are protect and unprotect."
 abbrev pub IsPacketCall : Call → Type 0
-IsPacketCall (add e ssrc way rollover W) = ⊥
+IsPacketCall (add e ssrc way rollover) = ⊥
 IsPacketCall (protect e buf n) = Unit {0}
 IsPacketCall (unprotect e buf n) = Unit {0}
 
 abbrev pub ssrc_in : Call → ℕ
-ssrc_in (add e ssrc way rollover W) = ssrc
+ssrc_in (add e ssrc way rollover) = ssrc
 ssrc_in (protect e buf n) = ssrc_of (take n buf)
 ssrc_in (unprotect e buf n) = ssrc_of (take n buf)
 
 abbrev pub way_in : Call → Way
-way_in (add e ssrc way rollover W) = way
+way_in (add e ssrc way rollover) = way
 way_in (protect e buf n) = Sending
 way_in (unprotect e buf n) = Receiving
 

@@ -34,7 +34,7 @@ sent_by rollover last p a = record { index = index_of rollover last p; packet = 
 -- "A packet of the stream is sent by a protect with a result in the sender's session."
 abbrev pub sent_from : ℕ → ℕ → Last → List Event → List Sent
 sent_from ssrc rollover last [] = []
-sent_from ssrc rollover last (event (add e y way r W) a ∷ es) = sent_from ssrc rollover last es
+sent_from ssrc rollover last (event (add e y way r) a ∷ es) = sent_from ssrc rollover last es
 sent_from ssrc rollover last (event (protect sender buf n) a ∷ es) =
     pick (eqb (ssrc_of (take n buf)) ssrc && eqb a.number 0)
     (sent_by rollover last (take n buf) a ∷ sent_from ssrc rollover (last_sent (sent_by rollover last (take n buf) a)) es)
@@ -49,8 +49,8 @@ no_packet = record { index = 0; packet = []; wire = [] }
 abbrev pub OfEachSent : (Suite → List ℕ → List ℕ → ℕ → List ℕ → ℕ → Sent → Type 0) → Type 0
 OfEachSent P =
     (suite : Suite) (key salt : List ℕ) (policy : ℕ) (ids others : List ℕ) (calls : List Call) → Each Bytes calls
-    → (ssrc rollover W i : ℕ) → rollover < 2 ^ 32
-    → get_or (events_of (just_made suite key salt policy ids others) calls) i no_event ≡ added sender ssrc Sending rollover W
+    → (ssrc rollover i : ℕ) → rollover < 2 ^ 32
+    → get_or (events_of (just_made suite key salt policy ids others) calls) i no_event ≡ added sender ssrc Sending rollover
     → Each (P suite key salt policy ids ssrc) (sent_from ssrc rollover none_sent (events_of (just_made suite key salt policy ids others) calls))
 
 -- ---- the claim

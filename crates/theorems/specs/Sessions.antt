@@ -1,12 +1,10 @@
 -- What holds of every session that making and any list of calls lead to.
 use Rattle.std.specs.Prelude.{◌≡◌, true, false, not, ◌&&◌, List, [], ◌∷◌, ℕ, ◌≤◌, ◌<◌, eqb, length}
-use Rattle.bits.specs.Lists.{Each}
 use Rattle.rtp_elements.specs.Mask.{among, listed_in}
 use Rattle.suites.specs.declared.suite.Suite.{Suite}
 use Rattle.suites.specs.Suites.{last_policy_of}
 use Rattle.policies.specs.Policies.{policy_number}
-use Rattle.replay.specs.Window.{is_window}
-use Rattle.session.specs.Session.{Kind, Free, Sender, Receiver, Record, Session}
+use Rattle.session.specs.Session.{Record, Session}
 use Rattle.session.specs.Records.{is_free, has_ssrc}
 use Rattle.session.specs.Making.{keys_of, ids_of, unmade, session_of, make_of}
 use Rattle.theorems.specs.Lists.{End, Call, session_at, just_made, EqualSets, outcome_of, after}
@@ -15,12 +13,6 @@ use Rattle.theorems.specs.Lists.{End, Call, session_at, just_made, EqualSets, ou
 abbrev pub NoSsrcTwice : List Record → Type 0
 NoSsrcTwice [] = Unit {0}
 NoSsrcTwice (r ∷ l) = (is_free r.kind ≡ false → has_ssrc l r.ssrc ≡ false) × NoSsrcTwice l
-
--- a receiver's window is one that its add takes; a sender has none, which is 0; of a free place nothing is said
-abbrev pub HasWindow : Kind → ℕ → Type 0
-HasWindow Free W = Unit {0}
-HasWindow Sender W = W ≡ 0
-HasWindow Receiver W = is_window W ≡ true
 
 pub record Sound (s : Session) : Type 0 where
   -- the policy is one that there is with its suite: no mask with GCM
@@ -31,7 +23,6 @@ pub record Sound (s : Session) : Type 0 where
   -- 32 places, so at most 32 streams
   pub places : length s.records ≡ 32
   pub once : NoSsrcTwice s.records
-  pub windows : Each (λ (r : Record). HasWindow r.kind r.window) s.records
 
 pub record SessionsAreSound : Type 0 where
   pub made : (suite : Suite) (key salt : List ℕ) (policy : ℕ) (ids : List ℕ) → Sound (make_of suite key salt policy ids).session

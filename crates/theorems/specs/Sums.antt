@@ -11,12 +11,12 @@ use Rattle.replay.specs.Answers.{told_of}
 use Rattle.replay.specs.Guess.{guess_of}
 use Rattle.replay.specs.Send.{sent_of, send_of}
 use Rattle.replay.specs.State.{fresh_of, accept_of}
-use Rattle.replay.specs.Window.{blocks}
+use Rattle.replay.specs.Window.{blocks, width}
 
 -- ---- a row
 
 pub data Question : Type 0 where
-  -- SEQ received beside the highest index h, the only one accepted, with a window of 64
+  -- SEQ received beside the highest index h, the only one accepted
   received : ℕ → ℕ → Question
   -- each SEQ sent where the last index sent is h
   sent : ℕ → List ℕ → Question
@@ -31,7 +31,7 @@ pub data Result : Type 0 where
   element : Result
 
 abbrev pub received_at : ℕ → ℕ → Received
-received_at h seq = receive_of blocks 64 (accept_of blocks (fresh_of blocks) h) 0 seq
+received_at h seq = receive_of blocks width (accept_of blocks (fresh_of blocks) h) 0 seq
 
 abbrev pub sent_after : ℕ → ℕ → Told
 sent_after h seq = told_of (send_of (sent_of (fresh_of blocks) (Index h)) 0 seq).judged

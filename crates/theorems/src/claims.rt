@@ -15,8 +15,7 @@ pub fn one_answer_each()
     ensures { OneAnswerEach }
 {}
 
-// A made session has the keys of its master key and salt and a policy that its suite takes, an unmade one is the fixed one; each has at most 32 streams and no SSRC twice, and each receiver a
-// window that an add takes.
+// A made session has the keys of its master key and salt and a policy that its suite takes, an unmade one is the fixed one; each has at most 32 streams and no SSRC twice.
 pub fn sessions_are_sound()
     ensures { SessionsAreSound }
 {}

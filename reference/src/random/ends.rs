@@ -4,8 +4,6 @@
 use super::craft;
 use super::dice::Dice;
 use super::stage::{Answer, Stage};
-use super::windows;
-use crate::index::WINDOW;
 use crate::suite::Suite;
 
 pub struct Ends {
@@ -99,32 +97,12 @@ impl Ends {
 
     /// Adds a stream at both ends, mostly with equal starting rollover.
     pub fn add(&self, stage: &mut Stage, rollover: u32, first: u16) -> Option<Stream> {
-        self.add_with_window(stage, rollover, first, WINDOW)
-    }
-
-    /// The same with a window for the receiver. The sender's add can have any number in its place.
-    pub fn add_with_window(
-        &self,
-        stage: &mut Stage,
-        rollover: u32,
-        first: u16,
-        window: u64,
-    ) -> Option<Stream> {
         let any = stage.dice.number_32();
         let ssrc = stage.dice.pick(&[any, any, any, any, 0, u32::MAX]);
         let is_equal = !stage.dice.one_in(15);
         let other = if is_equal { rollover } else { rollover.wrapping_add(1) };
-        if stage.dice.one_in(3) {
-            let number = windows::number(&mut stage.dice);
-            stage.add_with_window(self.sender, ssrc, "s", rollover, number)?;
-        } else {
-            stage.add(self.sender, ssrc, "s", rollover)?;
-        }
-        if window == WINDOW && !stage.dice.one_in(4) {
-            stage.add(self.receiver, ssrc, "r", other)?;
-        } else {
-            stage.add_with_window(self.receiver, ssrc, "r", other, window)?;
-        }
+        stage.add(self.sender, ssrc, "s", rollover)?;
+        stage.add(self.receiver, ssrc, "r", other)?;
         Some(Stream { ssrc, last: first.wrapping_sub(1), sent: Vec::new() })
     }
 

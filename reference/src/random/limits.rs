@@ -2,9 +2,8 @@
 //! packet's end, 32 records. Both sides of each limit are tried.
 
 use super::craft::{self, Draft};
-use super::ends::{self, with_sequence, Ends, Stream};
+use super::ends::{self, Ends, Stream};
 use super::stage::Stage;
-use super::windows;
 
 /// Numbers for n that a sum would overflow or that lie around the buffer's length.
 fn told_length(stage: &mut Stage, length: usize) -> u64 {
@@ -161,22 +160,19 @@ fn try_cut(stage: &mut Stage, ends: &Ends, packet: &[u8]) -> Option<()> {
     Some(())
 }
 
-/// A session with 32 records of any windows, its 33rd, and the same SSRC again before and after.
+/// A session with 32 records, its 33rd, and the same SSRC again before and after.
 pub fn full(stage: &mut Stage) -> Option<()> {
     let ends = Ends::open(stage)?;
     let base = stage.dice.number_32() & 0xffff_ff00;
     let mut streams = Vec::new();
-    let mut windows = Vec::new();
     let most = stage.dice.pick(&[31, 32, 33, 34, 34]);
     for number in 0..most {
         let ssrc = base + number;
         let rollover = ends::rollover(&mut stage.dice);
         let is_back = stage.dice.one_in(6);
         let ways = if is_back { ["r", "s"] } else { ["s", "r"] };
-        let window = windows::window(&mut stage.dice);
         stage.add(ends.sender, ssrc, ways[0], rollover)?;
-        stage.add_with_window(ends.receiver, ssrc, ways[1], rollover, window)?;
-        windows.push(window as u16);
+        stage.add(ends.receiver, ssrc, ways[1], rollover)?;
         streams.push(Stream { ssrc, last: ends::sequence(&mut stage.dice), sent: Vec::new() });
         if stage.dice.one_in(12) {
             let (way, known) = (stage.dice.pick(&["s", "r"]), base + stage.dice.number_32() % 40);
@@ -188,18 +184,9 @@ pub fn full(stage: &mut Stage) -> Option<()> {
         let answer = ends.send(stage, &mut streams[place], 1)?;
         if answer.number == 0 {
             ends.deliver(stage, answer.packet())?;
-            // OLD by this record's own window, or else TAG.
-            let distance = windows[place] - stage.dice.pick(&[0, 1]);
-            let sequence = streams[place].last.wrapping_sub(distance);
-            ends.deliver(stage, &with_sequence(answer.packet(), sequence))?;
         }
     }
     let known = base + stage.dice.number_32() % 34;
     stage.add(ends.receiver, known, "r", 1)?;
-    for _ in 0..3 {
-        let ssrc = base + stage.dice.number_32() % 64;
-        let number = windows::number(&mut stage.dice);
-        stage.add_with_window(ends.receiver, ssrc, "r", 1, number)?;
-    }
     ends.states(stage)
 }

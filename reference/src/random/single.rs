@@ -5,7 +5,6 @@ use super::craft;
 use super::dice::Dice;
 use super::ends;
 use super::stage::Stage;
-use super::windows;
 use crate::elements;
 use crate::header;
 use crate::hex;
@@ -28,12 +27,7 @@ pub fn keys(stage: &mut Stage) -> Option<()> {
         let rollover = ends::rollover(&mut stage.dice);
         let any = stage.dice.below(8);
         let other = stage.dice.pick(&[session, session, any]);
-        let number = windows::number(&mut stage.dice);
-        if stage.dice.one_in(3) {
-            stage.add_with_window(other, ssrc, way, rollover, number)?;
-        } else {
-            stage.add(other, ssrc, way, rollover)?;
-        }
+        stage.add(other, ssrc, way, rollover)?;
         packet_call(stage, other, ssrc)?;
         stage.state(session)?;
     }

@@ -5,7 +5,7 @@ use super::dice::Dice;
 use crate::hex;
 
 /// Short lines, each with one thing wrong.
-const WRONG: [&str; 79] = [
+const WRONG: [&str; 64] = [
     "frotz 0",
     "State 0",
     "state",
@@ -49,21 +49,6 @@ const WRONG: [&str; 79] = [
     "add 0 00000000 s 4294967296",
     "add 0 00000000 r 99999999999999999999999",
     "add 0 00000000 s",
-    "add 0 00000000 r 0 18446744073709551616",
-    "add 0 00000000 s 0 18446744073709551616",
-    "add 0 00000000 r 0 18446744073709551680",
-    "add 0 00000000 r 0 64 64",
-    "add 0 00000000 s 0 0 0",
-    "add 0 00000000 r 0 -",
-    "add 0 00000000 r 0 -64",
-    "add 0 00000000 r 0 +64",
-    "add 0 00000000 r 0 64.0",
-    "add 0 00000000 r 0 0x40",
-    "add 0 00000000 r 4294967296 64",
-    "add 0 00000000 R 0 64",
-    "add 8 00000000 r 0 64",
-    "add 0 00000000 r 0 gcm",
-    "add 0 00000000 64 r 0",
     "protect 0 18446744073709551616 -",
     "protect 0 1.0 ab",
     "protect 0 0x1 ab",
@@ -94,7 +79,7 @@ pub fn spoiled(dice: &mut Dice, line: &str) -> Vec<u8> {
         4 => line.replacen(' ', "  ", 1).into_bytes(),
         5 => format!("{line} ").into_bytes(),
         6 => format!(" {line}").into_bytes(),
-        7 => format!("{line}{}", if line.starts_with("add ") { " 0 0" } else { " 0" }).into_bytes(),
+        7 => format!("{line} 0").into_bytes(),
         8 => without_last_word(line),
         9 => with_byte(dice, line, b'\r'),
         10 => with_byte(dice, line, b'\t'),
@@ -105,11 +90,7 @@ pub fn spoiled(dice: &mut Dice, line: &str) -> Vec<u8> {
 }
 
 fn without_last_word(line: &str) -> Vec<u8> {
-    // Without its suite alone a making can be read, and without its window an add.
-    if line.starts_with("add ") {
-        let words: Vec<&str> = line.split(' ').take(4).collect();
-        return words.join(" ").into_bytes();
-    }
+    // Without its suite alone a making can be read.
     let line = line.strip_suffix(" gcm").unwrap_or(line);
     let end = line.rfind(' ').unwrap_or(0);
     // An empty line would be one that can be read.

@@ -3,7 +3,6 @@
 use super::dice::Dice;
 use super::spoil;
 use crate::hex;
-use crate::index::{LONGEST_WINDOW, WINDOW};
 use crate::keystream::Keystream;
 use crate::script::Desk;
 use crate::suite::Suite;
@@ -31,15 +30,13 @@ pub struct Stage<'a> {
     /// Calls still to be written.
     left: u64,
     cases: u64,
-    /// The windows that come before all have come once more.
-    windows: Vec<u64>,
     result: io::Result<()>,
 }
 
 impl<'a> Stage<'a> {
     pub fn new(seed: u64, count: u64, output: &'a mut dyn Write) -> Stage<'a> {
         let (dice, desk) = (Dice::new(seed), Desk::default());
-        Stage { dice, desk, output, left: count, cases: 0, windows: Vec::new(), result: Ok(()) }
+        Stage { dice, desk, output, left: count, cases: 0, result: Ok(()) }
     }
 
     /// Whether further calls can be written.
@@ -147,29 +144,6 @@ impl<'a> Stage<'a> {
     pub fn add(&mut self, session: u64, ssrc: u32, way: &str, rollover: u32) -> Option<Answer> {
         let rollover = self.decimal(u64::from(rollover));
         self.call(format!("add {session} {ssrc:08x} {way} {rollover}"))
-    }
-
-    /// The window is any number here.
-    pub fn add_with_window(
-        &mut self,
-        session: u64,
-        ssrc: u32,
-        way: &str,
-        rollover: u32,
-        window: u64,
-    ) -> Option<Answer> {
-        let (rollover, window) = (self.decimal(u64::from(rollover)), self.decimal(window));
-        self.call(format!("add {session} {ssrc:08x} {way} {rollover} {window}"))
-    }
-
-    /// A window. All come, in any order, before they come again; the longest comes three times.
-    pub fn next_window(&mut self) -> u64 {
-        if self.windows.is_empty() {
-            self.windows = (1..=LONGEST_WINDOW / WINDOW).map(|blocks| blocks * WINDOW).collect();
-            self.windows.extend([LONGEST_WINDOW; 2]);
-        }
-        let place = self.dice.size(0, self.windows.len() - 1);
-        self.windows.swap_remove(place)
     }
 }
 

@@ -1,11 +1,9 @@
 //! Scenes of talks over a lossy network, after demand 3: loss, repetition, order, damage, the
-//! window (mostly of 64), ties of 32,768, both ends of the rollover's range, ends of unequal policy.
+//! window of 64, ties of 32,768, both ends of the rollover's range, ends of unequal policy.
 
 use super::craft;
 use super::ends::{self, damaged, with_sequence, Ends, Stream};
 use super::stage::Stage;
-use super::windows;
-use crate::index::WINDOW;
 
 /// Steps that a sender takes, and some that it must not.
 const STEPS: [u16; 14] =
@@ -21,12 +19,6 @@ fn step(stage: &mut Stage) -> u16 {
     }
 }
 
-/// Document 01's window, or any.
-fn some_window(stage: &mut Stage) -> u64 {
-    let any = windows::window(&mut stage.dice);
-    stage.dice.pick(&[WINDOW, any])
-}
-
 /// Anything may happen, on one to four streams.
 pub fn talk(stage: &mut Stage) -> Option<()> {
     let ends = Ends::open(stage)?;
@@ -34,8 +26,7 @@ pub fn talk(stage: &mut Stage) -> Option<()> {
     for _ in 0..stage.dice.between(1, 4) {
         let rollover = ends::rollover(&mut stage.dice);
         let first = ends::sequence(&mut stage.dice);
-        let window = some_window(stage);
-        streams.push(ends.add_with_window(stage, rollover, first, window)?);
+        streams.push(ends.add(stage, rollover, first)?);
     }
     for _ in 0..stage.dice.between(20, 70) {
         let place = stage.dice.size(0, streams.len() - 1);
@@ -86,12 +77,7 @@ fn rare_once(stage: &mut Stage, ends: &Ends, stream: &mut Stream) -> Option<()> 
         3 => {
             let way = stage.dice.pick(&["s", "r"]);
             let session = stage.dice.pick(&[ends.sender, ends.receiver]);
-            let number = windows::number(&mut stage.dice);
-            if stage.dice.one_in(2) {
-                stage.add(session, stream.ssrc, way, 0)?
-            } else {
-                stage.add_with_window(session, stream.ssrc, way, 0, number)?
-            }
+            stage.add(session, stream.ssrc, way, 0)?
         }
         // Any byte string of the stream, read for an element or told a wrong length.
         4 => stage.find(1, &wire)?,
@@ -204,8 +190,7 @@ pub fn last(stage: &mut Stage) -> Option<()> {
     } else {
         stage.dice.pick(&[65_535, 65_534, 65_530, 65_472, 65_471, 32_769, 32_768, 32_767])
     };
-    let window = some_window(stage);
-    let mut stream = ends.add_with_window(stage, rollover, first, window)?;
+    let mut stream = ends.add(stage, rollover, first)?;
     for _ in 0..stage.dice.between(6, 20) {
         let step = stage.dice.pick(&[1, 1, 1, 2, 5, 60, 64, 32_767, 0, 32_768]);
         ends.send_small(stage, &mut stream, step)?;
@@ -218,8 +203,7 @@ pub fn last(stage: &mut Stage) -> Option<()> {
         // A forger reaches for indices past the ends and at the ties.
         let end = stage.dice.pick(&[1, 32_767]);
         let away = stage.dice.pick(&[1, 2, 63, 64, 32_767, 32_768, 32_769, 65_472, 65_473, 65_535]);
-        let edge = 0u16.wrapping_sub(window as u16).wrapping_add(stage.dice.pick(&[0, 1, 65_535]));
-        let away = stage.dice.pick(&[end, away, away, edge]);
+        let away = stage.dice.pick(&[end, away, away]);
         let forged = with_sequence(&wire, stream.last.wrapping_add(away));
         ends.deliver(stage, &forged)?;
     }

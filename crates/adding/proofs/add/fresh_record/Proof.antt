@@ -13,15 +13,9 @@ array-write-words c = search rules
 array-write-words-2 : tie.Need-array-write-words-2
 array-write-words-2 c = search rules
 
-window-for-requires : tie.Need-window-for-requires
-window-for-requires c κs = search rules
-
-array-write-words-3 : tie.Need-array-write-words-3
-array-write-words-3 c = search rules
-
 returns : tie.Need-returns
-returns c = let a = c.before.before.args in rw (c.before.head-word.ensures, c.window-for.ensures) (fresh-is a.ssrc a.way a.rollover a.window)
+returns c = let a = c.before.args in rw c.head-word.ensures (fresh-is a.ssrc a.way a.rollover)
 
 pub fresh-record-spec : {M : Type 1} → statement M
 fresh-record-spec =
-    tie.close (tie.spec head-word-requires array-write-words array-write-words-2 window-for-requires array-write-words-3 returns)
+    tie.close (tie.spec head-word-requires array-write-words array-write-words-2 returns)

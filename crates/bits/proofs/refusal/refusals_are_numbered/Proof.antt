@@ -1,12 +1,14 @@
 -- `bits::refusal::refusals_are_numbered`: each case computes.
 use mathlib.Core.Path.{◌≡◌, refl}
+use Prim.Native.Nat.{◌-◌}
+use lib.ListN.{get_or}
 use Rattle.bits.specs.declared.refusal.Refusal.{Refusal}
-use Rattle.bits.specs.declared.refusal.Refusal.TheVariants.{Length, Short, Version, Header, Profile, Element, Large, Room, Stream, Order, Worn, Old, Repeat, Tag, Keys, Policy, Twice, Full, Absent, Window}
-use Rattle.bits.specs.Refusals.{number_of, refusals, in_row}
+use Rattle.bits.specs.declared.refusal.Refusal.TheVariants.{Length, Short, Version, Header, Profile, Element, Large, Room, Stream, Order, Worn, Old, Repeat, Tag, Keys, Policy, Twice, Full, Absent}
+use Rattle.bits.specs.Refusals.{number_of, refusals}
 use Rattle.bits.proofs.refusal.refusals_are_numbered.Statement.{statement}
 use Rattle.bits.proofs.refusal.refusals_are_numbered.Tie as tie
 
-in-its-row : (r : Refusal) → in_row (number_of r) refusals ≡ r
+in-its-row : (r : Refusal) → get_or refusals (number_of r - 1) Length ≡ r
 in-its-row Length = refl
 in-its-row Short = refl
 in-its-row Version = refl
@@ -26,7 +28,6 @@ in-its-row Policy = refl
 in-its-row Twice = refl
 in-its-row Full = refl
 in-its-row Absent = refl
-in-its-row Window = refl
 
 returns : tie.Need-returns
 returns c = record { numbers = refl; rows = in-its-row }

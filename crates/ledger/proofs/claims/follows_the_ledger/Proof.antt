@@ -2,10 +2,10 @@
 use mathlib.Core.Path.{refl}
 use mathlib.Core.List.{[]}
 use native.Mathlib.Omega.{arith}
-use lib.Dec.{lit<}
+use lib.Dec.{lit<, lit≤}
 use Rattle.replay.specs.Guess.{guess_of}
 use Rattle.replay.specs.State.{fresh_of}
-use Rattle.ledger.proofs.Ledger.{fresh-remembers, memory, receiver, remembered, near-right, window-room}
+use Rattle.ledger.proofs.Ledger.{fresh-remembers, memory, receiver, remembered, near-right}
 use Rattle.ledger.proofs.claims.follows_the_ledger.Statement.{statement}
 use Rattle.ledger.proofs.claims.follows_the_ledger.Tie as tie
 
@@ -17,11 +17,9 @@ returns c =
       receiver = λ b W rollover room is g. receiver b W rollover room (fresh_of b) [] is (fresh-remembers b W (omega arith)) g;
       highest = λ b W rollover room is g. (remembered b W rollover room (fresh_of b) [] is (fresh-remembers b W (omega arith)) g).highest;
       near = near-right;
-      enough = window-room;
+      enough = lit≤ tt;
       met = (lit< tt, (refl, (lit< tt, (refl, (lit< tt, (refl, (lit< tt, (refl, (lit< tt, (refl, (lit< tt, (refl, (lit< tt, (refl, tt))))))))))))));
       example = refl;
-      met-late = (lit< tt, (refl, (lit< tt, (refl, (lit< tt, (refl, (lit< tt, (refl, tt))))))));
-      example-late = refl;
     }
 
 pub follows-the-ledger-spec : {M : Type 1} → statement M

@@ -1,5 +1,5 @@
 -- `records::tracks::judge` meets its contract.
-use mathlib.Core.Path.{refl, ap, ◌∙◌}
+use mathlib.Core.Path.{ap, ◌∙◌}
 use Rattle.replay.specs.declared.receive.Arrival.{Arrival}
 use Rattle.records.proofs.Lending.{judged-sending, judged-receiving}
 use borrow.Author.Rules.{rules}
@@ -56,15 +56,6 @@ returns c =
 enum-told-2 : tie.Need-enum-told-2
 enum-told-2 c = search rules
 
-add-window : tie.Need-overflow-add-window
-add-window c = search rules
-
-mul-window : tie.Need-overflow-mul-window
-mul-window c = search rules
-
-shared-slice-read-window : tie.Need-shared-slice-read-window
-shared-slice-read-window c = search rules
-
 mul-receive : tie.Need-overflow-mul-receive
 mul-receive c = search rules
 
@@ -82,11 +73,11 @@ receive-requires c κs = search rules
 
 returns-2 : tie.Need-returns-2
 returns-2 c =
-    let k = c.before.before.before in
+    let k = c.before.before in
     let l = k.before.before in
     let p = l.before.before in
     let s = p.before.before in
-    rw k.enum-told2.given.1 (ap (λ (a : Arrival). a.judged) c.receive.ensures ∙ judged-receiving s.args.session.now s.requires.0 s.args.i s.requires.1 _ p.record-place.ensures _ l.low.ensures s.args.sequence _ refl)
+    rw k.enum-told2.given.1 (ap (λ (a : Arrival). a.judged) c.receive.ensures ∙ judged-receiving s.args.session.now s.requires.0 s.args.i s.requires.1 _ p.record-place.ensures _ l.low.ensures s.args.sequence)
 
 pub judge-spec : {M : Type 1} → statement M
 judge-spec =
@@ -107,9 +98,6 @@ judge-spec =
     send-requires
     returns
     enum-told-2
-    add-window
-    mul-window
-    shared-slice-read-window
     mul-receive
     sub-receive
     part-receive-start

@@ -20,7 +20,7 @@ returns : tie.Need-returns
 returns c =
     let s = c.before.before.before.before in
     let a = s.args in
-    rw c.first-index.ensures (sym (first-arrival a.track.now a.window a.rollover a.sequence c.before.if1.true (omega arith)))
+    rw c.first-index.ensures (sym (first-arrival a.track.now a.width a.rollover a.sequence c.before.if1.true (omega arith)))
 
 shared-slice-read-highest : tie.Need-shared-slice-read-highest
 shared-slice-read-highest c = search rules
@@ -56,7 +56,7 @@ returns-2 c =
     let d = to_z-of_z w32 _ (record { sfits = c.difference.type-inv }) ∙ c.difference.ensures in
     rw (d, c.before.judge-offset.ensures, rest 2 l, g.guess.ensures)
     (sym
-    (later-arrival l a.window a.rollover a.sequence _ _ e.if1.false
+    (later-arrival l a.width a.rollover a.sequence _ _ e.if1.false
     (guess-is (get_or l 1 0) a.sequence (omega arith))
     (distance_is (get_or l 1 0) a.sequence (omega arith))))
 

@@ -7,10 +7,10 @@ use Rattle.state_lines.proofs.state.put_seen.Statement.{statement}
 use Rattle.state_lines.proofs.state.put_seen.Tie as tie
 
 abbrev invariant-loop : tie.invariant-loop
-invariant-loop out₀ at ring highest window place₀ distance₀ out place distance = length out ≡ length out₀
+invariant-loop out₀ at ring highest width place₀ distance₀ out place distance = length out ≡ length out₀
 
 abbrev decreases-loop : tie.decreases-loop
-decreases-loop out₀ at ring highest window place₀ distance₀ out place distance = window - distance
+decreases-loop out₀ at ring highest width place₀ distance₀ out place distance = width - distance
 
 loop-holds : tie.Need-loop-init invariant-loop decreases-loop
 loop-holds c = search rules
