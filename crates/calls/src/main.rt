@@ -1,5 +1,6 @@
 // The call script: calls read from standard input, one to a line, made on the proved library and answered on standard output.
 // Follows docs/CALLS.md.
+#![tactic(auto)]
 mod commands;
 mod packets;
 mod sessions;

@@ -1,5 +1,6 @@
 // Document 01's sums run through the proved code: of the files beside src/, `stdin` has the sums, one to a line, and `stdout` what document 01 says.
 // Follows document 01, "Sums on the bench".
+#![tactic(auto)]
 mod indices;
 mod packets;
 

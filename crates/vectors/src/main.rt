@@ -1,6 +1,7 @@
 // Published test vectors, and three packets of libsrtp's, through the proved code: `stdin` beside src/ has them, `stdout` what was published, or sent by it.
 // Follows FIPS 197 (appendices B and C.1), SP 800-38A (F.1.1), FIPS 180 (examples), RFC 2202 (section 3), RFC 3711 (B.2, B.3),
 // the submission of GCM to NIST (appendix B, cases 1 to 4), RFC 6904 (A.1, A.2) and RFC 9335 (A.1, A.2).
+#![tactic(auto)]
 use cipher_vectors::{ciphers, hashes, sealed};
 use extension_vectors::extensions;
 use libc::STDIN_FILENO;
