@@ -6,10 +6,9 @@ use lib.Dec.{lit<, lit≤}
 use Rattle.replay.specs.Guess.{guess_of}
 use Rattle.replay.specs.State.{fresh_of}
 use Rattle.ledger.proofs.Ledger.{fresh-remembers, memory, receiver, remembered, near-right}
-use Rattle.ledger.proofs.claims.follows_the_ledger.Statement.{statement}
-use Rattle.ledger.proofs.claims.follows_the_ledger.Tie as tie
+use Rattle.ledger.proofs.claims.follows_the_ledger.Goals as goal
 
-returns : tie.Need-returns
+pub returns : goal.returns
 unfolding guess_of
 returns c =
     record {
@@ -21,6 +20,3 @@ returns c =
       met = (lit< tt, (refl, (lit< tt, (refl, (lit< tt, (refl, (lit< tt, (refl, (lit< tt, (refl, (lit< tt, (refl, (lit< tt, (refl, tt))))))))))))));
       example = refl;
     }
-
-pub follows-the-ledger-spec : {M : Type 1} → statement M
-follows-the-ledger-spec = tie.close (tie.spec returns)
