@@ -1,9 +1,8 @@
 -- `stretches::claims::stretches_meet`: the laws of stretches.
 use Rattle.stretches.proofs.Parts.{refused, served, length-stretch, stretch-twice, neighbours-join, stretch-placed}
-use Rattle.stretches.proofs.claims.stretches_meet.Statement.{statement}
-use Rattle.stretches.proofs.claims.stretches_meet.Tie as tie
+use Rattle.stretches.proofs.claims.stretches_meet.Goals as goal
 
-returns : tie.Need-returns
+pub returns : goal.returns
 returns c =
     record {
       joined = neighbours-join;
@@ -13,6 +12,3 @@ returns c =
       undone = stretch-twice;
       placed = stretch-placed;
     }
-
-pub stretches-meet-spec : {M : Type 1} → statement M
-stretches-meet-spec = tie.close (tie.spec returns)
