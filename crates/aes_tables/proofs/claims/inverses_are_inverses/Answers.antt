@@ -7,8 +7,7 @@ use borrow.Author.Tests.{ne_eqb}
 use Rattle.bits.specs.Pick.{pick}
 use Rattle.aes_tables.specs.Field.{◌•◌, inverse_of}
 use Rattle.aes_tables.proofs.Sbox.{inverse-byte, inverse-product}
-use Rattle.aes_tables.proofs.claims.inverses_are_inverses.Statement.{statement}
-use Rattle.aes_tables.proofs.claims.inverses_are_inverses.Tie as tie
+use Rattle.aes_tables.proofs.claims.inverses_are_inverses.Goals as goal
 
 zero-stays : inverse_of 0 ≡ 0
 unfolding ◌•◌ inverse_of
@@ -17,8 +16,5 @@ zero-stays = refl
 product : (b : ℕ) → 0 < b → b < 256 → b • inverse_of b ≡ 1
 product b h l = inverse-product b l ∙ ap (λ (t : Bool). pick t 0 1) (ne_eqb b 0 (λ e. omega arith))
 
-returns : tie.Need-returns
+pub returns : goal.returns
 returns c = record { zero-stays = zero-stays; byte = inverse-byte; product = product }
-
-pub inverses-are-inverses-spec : {M : Type 1} → statement M
-inverses-are-inverses-spec = tie.close (tie.spec returns)
