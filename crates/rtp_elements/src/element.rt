@@ -15,7 +15,7 @@ pub struct Element {
 }
 
 // An element that was sought; none; or one that runs past its block.
-#[derive(Drop)]
+#[derive(Clone, Copy)]
 pub enum Found {
     At(Element),
     Absent,

@@ -19,7 +19,7 @@ pub struct Layout {
 }
 
 // The layout, or why the header cannot be read.
-#[derive(Drop)]
+#[derive(Clone, Copy)]
 pub enum Header {
     Read(Layout),
     Refused(Refusal),
