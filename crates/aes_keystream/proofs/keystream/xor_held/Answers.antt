@@ -40,14 +40,13 @@ pub returns : goal.returns
 returns c =
     let within : c.args.s.at + length c.args.buf.now ≤ keystream_end = small _ _ c.requires in
     let span_of : Span (c.args.s.at % 16) (length c.args.buf.now) c.span-n.result = spanned _ _ c.span-n.result (omega arith) c.span-n.ensures in
-    let p = x in
-    let a = p.args in
+    let a = c.args in
     let s = span_of in
-    let n = p.span-n.result in record {
+    let n = c.span-n.result in record {
       used = record {
         forward = omega arith;
         within = omega (arith, s.within);
         next = λ u. let w = s.whole (omega arith) in omega arith;
       };
-      by_index = λ key start h. held key start a.buf.now a.s n c.xor_bytes.new.part p.if-from-eq0.false s c.xor_bytes.ensures h;
+      by_index = λ key start h. held key start a.buf.now a.s n c.xor_bytes.new.part c.if-from-eq0.false s c.xor_bytes.ensures h;
     }

@@ -58,11 +58,10 @@ pub overflow_add-t : goal.overflow_add-t
 overflow_add-t c =
     let within : c.args.s.at + length c.args.buf.now ≤ keystream_end = small _ _ c.requires.buf_value in
     let span_of : Span 0 (length (c).args.buf.now - c.loop-i.i) c.span-n.result = spanned _ _ c.span-n.result (omega arith) c.span-n.ensures in
-    let l = d in
     let s = span_of in
     let w = within in
-    let u = (l).xor_held-t.ensures.used in
-    omega (arith, s.within, l.loop-i.invariant.at, l.loop-i.invariant.from, u.forward, u.within)
+    let u = (c).xor_held-t.ensures.used in
+    omega (arith, s.within, c.loop-i.invariant.at, c.loop-i.invariant.from, u.forward, u.within)
 
 pub loop-i-smaller : goal.loop-i-smaller
 loop-i-smaller c =
@@ -75,17 +74,13 @@ pub loop-i-preserved : goal.loop-i-preserved
 loop-i-preserved c =
     let room : length c.args.buf.now ≤ length c.xor_held-t.new.buf = omega (arith, c.buf-1.given) in
     let span_of : Span 0 (length (c).args.buf.now - c.loop-i.i) c.span-n.result = spanned _ _ c.span-n.result (omega arith) c.span-n.ensures in
-    let d = x in
-    let k = d in
-    let l = d in
-    let b = l in
-    let a = b.args in
-    let p = l.loop-i in
+    let a = c.args in
+    let p = c.loop-i in
     let e = length a.buf.now in
-    let t₀ = b.xor_held-t.result in
+    let t₀ = c.xor_held-t.result in
     let hi : p.i < e = omega arith in
-    followed a.start.key a.start.block e b.xor_held-t.new.buf t₀ (t₀.at - a.s.at) p.buf p.t p.i d.span-n.result k.block-block.result c.xor_part.new.part
-    (room) hi p.invariant k.block-block.ensures (span_of) c.xor_part.ensures
+    followed a.start.key a.start.block e c.xor_held-t.new.buf t₀ (t₀.at - a.s.at) p.buf p.t p.i c.span-n.result c.block-block.result c.xor_part.new.part
+    (room) hi p.invariant c.block-block.ensures (span_of) c.xor_part.ensures
 
 pub shape_of-buf : goal.shape_of-buf
 shape_of-buf c = c.loop-i.invariant.size ∙ c.buf-1.given
@@ -93,12 +88,11 @@ shape_of-buf c = c.loop-i.invariant.size ∙ c.buf-1.given
 pub returns : goal.returns
 returns c =
     let within : c.args.s.at + length c.args.buf.now ≤ keystream_end = small _ _ c.requires.buf_value in
-    let b = l in
-    let a = b.args in
-    let x = b.xor_held-t in
+    let a = c.args in
+    let x = c.xor_held-t in
     let u = x.ensures.used in
     let w = c.loop-i.invariant in
-    let y = x.ensures.by_index a.start.key a.start.block b.requires.holds in record {
+    let y = x.ensures.by_index a.start.key a.start.block c.requires.holds in record {
       at_value = (omega (arith, w.at, w.upto, w.from, u.forward, u.within), w.holds);
       buf_after = stretched a.start.key a.start.block a.s x.result c.loop-i.t a.buf.now x.new.buf c.loop-i.buf c.loop-i.i
           (omega arith) (within) u y.1 w;

@@ -26,9 +26,8 @@ xor_stretch-u-requires c =
     let part_length : length (take (c.span-n.result - 0) (drop 0 c.loop-t.unread)) ≡ c.span-n.result =
     let n = spanning in
     length-take-le (c.span-n.result - 0) (drop 0 c.loop-t.unread) (omega (arith, n.fits, c.loop-t.invariant.0)) ∙ omega arith in
-    let s = q in
     let n = spanning in
-    record { lent = s.requires.lent; started = s.requires.started; buf_value = not-large c.loop-t.t.at (length (take (c.span-n.result - 0) (drop 0 c.loop-t.unread))) (omega (arith, part_length, n.within, s.requires.at_le_to.1)); holds = c.loop-t.invariant.1.1 }
+    record { lent = c.requires.lent; started = c.requires.started; buf_value = not-large c.loop-t.t.at (length (take (c.span-n.result - 0) (drop 0 c.loop-t.unread))) (omega (arith, part_length, n.within, c.requires.at_le_to.1)); holds = c.loop-t.invariant.1.1 }
 
 pub loop-t-smaller : goal.loop-t-smaller
 loop-t-smaller c =
@@ -36,9 +35,8 @@ loop-t-smaller c =
     let part_length : length (take (c.span-n.result - 0) (drop 0 c.loop-t.unread)) ≡ c.span-n.result =
     let n = spanning in
     length-take-le (c.span-n.result - 0) (drop 0 c.loop-t.unread) (omega (arith, n.fits, c.loop-t.invariant.0)) ∙ omega arith in
-    let q = x in
     let n = spanning in
-    let p : 0 < q.span-n.result = n.forward (omega arith) in
+    let p : 0 < c.span-n.result = n.forward (omega arith) in
     omega (arith, n.within, part_length, c.xor_stretch-u.ensures.at_value.0)
 
 pub loop-t-preserved : goal.loop-t-preserved
@@ -47,15 +45,14 @@ loop-t-preserved c =
     let part_length : length (take (c.span-n.result - 0) (drop 0 c.loop-t.unread)) ≡ c.span-n.result =
     let n = spanning in
     length-take-le (c.span-n.result - 0) (drop 0 c.loop-t.unread) (omega (arith, n.fits, c.loop-t.invariant.0)) ∙ omega arith in
-    let q = x in
     let n = spanning in
     let e = c.xor_stretch-u.ensures.at_value in
-    let l = q.loop-t.unread in
+    let l = c.loop-t.unread in
     let ys = c.xor_stretch-u.new.buf in
-    let size : length (ys ++ drop (q.span-n.result - 0) (drop 0 l)) ≡ 16 =
-    length-append ys (drop (q.span-n.result - 0) (drop 0 l))
-    ∙ ap (λ (m : ℕ). length ys + m) (length-drop (q.span-n.result - 0) (drop 0 l))
-    ∙ omega (arith, c.unread-in-loop-t-1.given, part_length, n.fits, q.loop-t.invariant.0) in
+    let size : length (ys ++ drop (c.span-n.result - 0) (drop 0 l)) ≡ 16 =
+    length-append ys (drop (c.span-n.result - 0) (drop 0 l))
+    ∙ ap (λ (m : ℕ). length ys + m) (length-drop (c.span-n.result - 0) (drop 0 l))
+    ∙ omega (arith, c.unread-in-loop-t-1.given, part_length, n.fits, c.loop-t.invariant.0) in
     (size, (omega (arith, n.within, part_length, e.0), e.1))
 
 pub returns : goal.returns
