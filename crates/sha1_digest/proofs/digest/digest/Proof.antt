@@ -1,8 +1,8 @@
--- `sha1::digest::digest` meets its contract: byte 0 of each word is divided by 1, the others as they stand.
+-- `sha1_digest::digest::digest` meets its contract: byte 0 of each word is divided by 1, the others as they stand.
 use native.Mathlib.Nat.{div-one}
 use borrow.Author.Rules.{rules}
-use Rattle.sha1.proofs.digest.digest.Statement.{statement}
-use Rattle.sha1.proofs.digest.digest.Tie as tie
+use Rattle.sha1_digest.proofs.digest.digest.Statement.{statement}
+use Rattle.sha1_digest.proofs.digest.digest.Tie as tie
 
 array-read-t5 : tie.Need-array-read-t5
 array-read-t5 c = search rules

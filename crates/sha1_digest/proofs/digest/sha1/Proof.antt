@@ -1,10 +1,10 @@
--- `sha1::digest::sha1` meets its contract: the message is one part, and the other is empty.
+-- `sha1_digest::digest::sha1` meets its contract: the message is one part, and the other is empty.
 use mathlib.Core.Path.{ap₂, ◌∙◌}
 use borrow.Author.Rules.{rules}
 use Rattle.sha1_compress.specs.Steps.{hash_from}
 use Rattle.sha1_compress.proofs.Padding.{tail_none, sha1-is}
-use Rattle.sha1.proofs.digest.sha1.Statement.{statement}
-use Rattle.sha1.proofs.digest.sha1.Tie as tie
+use Rattle.sha1_digest.proofs.digest.sha1.Statement.{statement}
+use Rattle.sha1_digest.proofs.digest.sha1.Tie as tie
 
 sub-none : tie.Need-overflow-sub-none
 sub-none c = search rules
