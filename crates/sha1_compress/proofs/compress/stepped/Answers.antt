@@ -4,7 +4,5 @@ use Rattle.sha1_compress.proofs.compress.stepped.Goals as goal
 
 pub returns : goal.returns
 returns c = λ t e.
-    let k = c in
-    let f = k in
-    let g = f.args in
-    stepped g.s c.step.result t g.w f.f.result k.k.result (f.f.ensures t e) (k.k.ensures t e) c.step.ensures
+    let g = c.args in
+    stepped g.s c.step.result t g.w c.f.result c.k.result (c.f.ensures t e) (c.k.ensures t e) c.step.ensures

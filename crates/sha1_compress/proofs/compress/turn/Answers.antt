@@ -4,6 +4,5 @@ use Rattle.sha1_compress.proofs.compress.turn.Goals as goal
 
 pub returns : goal.returns
 returns c = λ h m t l b e er.
-    let s = c in
-    let r = s.args.r in
-    turned h m l t r er s.stepped-u.result c.shift-v.result b (s.stepped-u.ensures t e) c.shift-v.ensures
+    let r = c.args.r in
+    turned h m l t r er c.stepped-u.result c.shift-v.result b (c.stepped-u.ensures t e) c.shift-v.ensures
