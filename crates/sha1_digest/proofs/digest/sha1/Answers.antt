@@ -6,9 +6,7 @@ use Rattle.sha1_digest.proofs.digest.sha1.Goals as goal
 
 pub returns : goal.returns
 returns c =
-    let f = c in
-    let s = f in
-    let m = s.args.m.now in
+    let m = c.args.m.now in
     c.digest.ensures
-    ∙ sha1-is m f.finish.result
-    (f.finish.ensures ∙ ap₂ (hash_from 0) s.start.ensures (tail_none m))
+    ∙ sha1-is m c.finish.result
+    (c.finish.ensures ∙ ap₂ (hash_from 0) c.start.ensures (tail_none m))
