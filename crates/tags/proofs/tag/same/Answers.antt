@@ -30,18 +30,16 @@ loop-i-init c = (search rules, refl)
 pub loop-i-preserved : goal.loop-i-preserved
 loop-i-preserved c =
     let l = c.loop-i in
-    let n = c in
-    let g = n.args in
+    let g = c.args in
     let x = get_or g.a.now l.i 0 ⊕ get_or g.b.now l.i 0 in (
       omega arith,
       ap (λ (k : ℕ). eqb (l.sum + k) 0) c.wide-sum.ensures.0
           ∙ sum-test l.sum x
-          ∙ compared g.a.now g.b.now l.sum l.i (omega arith) n.if-a-b.false l.invariant.1,
+          ∙ compared g.a.now g.b.now l.sum l.i (omega arith) c.if-a-b.false l.invariant.1,
     )
 
 pub returns : goal.returns
 returns c =
     let l = c.loop-i in
-    let n = c in
-    let g = n.args in
-    compared-all g.a.now g.b.now l.sum l.i (omega arith) n.if-a-b.false l.invariant.1
+    let g = c.args in
+    compared-all g.a.now g.b.now l.sum l.i (omega arith) c.if-a-b.false l.invariant.1
