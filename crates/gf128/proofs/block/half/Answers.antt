@@ -4,5 +4,4 @@ use Rattle.gf128.proofs.block.half.Goals as goal
 
 pub returns : goal.returns
 returns c =
-    let s = c in
-    half-read s.args.part.now s.args.at c.read64.result s.requires c.read64.ensures
+    half-read c.args.part.now c.args.at c.read64.result c.requires c.read64.ensures

@@ -4,5 +4,4 @@ use Rattle.gf128.proofs.block.read.Goals as goal
 
 pub returns : goal.returns
 returns c =
-    let s = c in
-    block_read s.args.part.now s.args.at c.half-high.result c.half-low.result s.requires c.half-high.ensures c.half-low.ensures
+    block_read c.args.part.now c.args.at c.half-high.result c.half-low.result c.requires c.half-high.ensures c.half-low.ensures
