@@ -6,7 +6,6 @@ use Rattle.gf128_product.proofs.moves.moved.Goals as goal
 
 pub returns : goal.returns
 returns c =
-    let s = c in
-    let z = s.args.z in
+    let z = c.args.z in
     let l : z.low < 2 ^ 64 = search rules in
-    moved-halves s.args.n z.high z.low s.requires.0 s.requires.1 l
+    moved-halves c.args.n z.high z.low c.requires.0 c.requires.1 l

@@ -8,9 +8,8 @@ use Rattle.gf128_product.proofs.product.byte.Goals as goal
 
 pub returns : goal.returns
 returns c =
-    let s = c in
-    let i = s.args.i in
+    let i = c.args.i in
     λ h t.
     c.xor.ensures
     ∙ ap₂ bit_xor (c.entry-first.ensures h t) (c.entry-second.ensures h t)
-    ∙ sum-joined 4 4 i (i + 1) h s.args.b (omega arith)
+    ∙ sum-joined 4 4 i (i + 1) h c.args.b (omega arith)

@@ -3,5 +3,4 @@ use Rattle.gf128_product.proofs.product.entry.Goals as goal
 
 pub returns : goal.returns
 returns c =
-    let s = c in
-    λ h t. (t.multiples s.args.i s.requires.0).entry s.args.k s.requires.1
+    λ h t. (t.multiples c.args.i c.requires.0).entry c.args.k c.requires.1

@@ -6,8 +6,7 @@ use Rattle.gf128_product.proofs.product.four.Goals as goal
 
 pub returns : goal.returns
 returns c =
-    let s = c in
     λ h t.
     c.xor.ensures
     ∙ ap₂ bit_xor (c.two-first.ensures h t) (c.two-second.ensures h t)
-    ∙ sum_first 16 16 4 h s.args.w refl
+    ∙ sum_first 16 16 4 h c.args.w refl

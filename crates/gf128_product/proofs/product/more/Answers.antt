@@ -7,5 +7,4 @@ use Rattle.gf128_product.proofs.product.more.Goals as goal
 
 pub returns : goal.returns
 returns c =
-    let s = c in
-    λ h t. c.xor.ensures ∙ ap₂ bit_xor c.moved.ensures (c.four.ensures h t) ∙ more-is 32 h (value_of s.args.z) s.args.w
+    λ h t. c.xor.ensures ∙ ap₂ bit_xor c.moved.ensures (c.four.ensures h t) ∙ more-is 32 h (value_of c.args.z) c.args.w

@@ -8,15 +8,12 @@ use Rattle.gf128_product.proofs.product.product.Goals as goal
 
 pub returns : goal.returns
 returns c =
-    let d = c in
-    let e = d in
-    let f = e in
-    let x = f.args.x in
+    let x = c.args.x in
     let l : x.low < 2 ^ 64 = search rules in
     let more : ℕ → ℕ → ℕ → ℕ = λ h z w. more_of 32 h z w in
     λ h t.
     c.more.ensures h t
     ∙ ap (λ (z : ℕ). more h z (x.high / 2 ^ 32))
-    (d.more-c.ensures h t
-    ∙ ap (λ (z : ℕ). more h z (x.high % 2 ^ 32)) (e.more-b.ensures h t ∙ ap (λ (z : ℕ). more h z (x.low / 2 ^ 32)) (f.more-a.ensures h t)))
+    (c.more-c.ensures h t
+    ∙ ap (λ (z : ℕ). more h z (x.high % 2 ^ 32)) (c.more-b.ensures h t ∙ ap (λ (z : ℕ). more h z (x.low / 2 ^ 32)) (c.more-a.ensures h t)))
     ∙ whole h x.high x.low l

@@ -8,9 +8,8 @@ use Rattle.gf128_product.proofs.product.two.Goals as goal
 
 pub returns : goal.returns
 returns c =
-    let s = c in
-    let i = s.args.i in
+    let i = c.args.i in
     λ h t.
     c.xor.ensures
     ∙ ap₂ bit_xor (c.byte-first.ensures h t) (c.byte-second.ensures h t)
-    ∙ sum-joined 8 8 i (i + 2) h s.args.w (omega arith)
+    ∙ sum-joined 8 8 i (i + 2) h c.args.w (omega arith)
