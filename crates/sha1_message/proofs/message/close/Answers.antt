@@ -28,6 +28,7 @@ pub returns : goal.returns
 returns c =
     let g = c.args in
     let held : ℕ = length g.left.now + length g.tail.now in
+    -- the blocks counted have just room for what is held and its padding
     let counted : (64 * c.if-m-lt56.n ≡ held + 9 + zeros_of held) × (c.if-m-lt56.n ≤ 2) =
     elim c.if-m-lt56.branch [
       | then-m-lt56 w ↦ (ap (λ (n : ℕ). 64 * n) w.n-is ∙ one_block held w.if-m-lt56.true, omega arith)
