@@ -21,6 +21,7 @@ pub loop-i-preserved : goal.loop-i-preserved
 loop-i-preserved c =
     let g = c.args in
     let p = c.loop-i in
+    -- a whole block is left
     let room : p.i < length g.part.now → p.i + 16 ≤ length g.part.now = λ h. let z = c.requires.0 in omega (arith, p.invariant.1.0) in
     let n : p.i + 16 ≤ length g.part.now = room c.loop-i-test.true in (
       omega arith,
