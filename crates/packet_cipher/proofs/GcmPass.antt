@@ -1,8 +1,8 @@
 -- GCM's one pass over a packet is its cipher, under every policy: where there is a mask, nothing is hidden by it.
 use mathlib.Core.Path.{◌≡◌, refl, sym, ap, ◌∙◌}
-use mathlib.Core.Bool.{Bool, true, false, ◌&&◌}
+use mathlib.Core.Bool.{Bool, true, false}
 use mathlib.Core.List.{List}
-use Prim.Native.Nat.{ℕ, ◌-◌, ◌≤◌, ◌<◌}
+use Prim.Native.Nat.{ℕ, ◌-◌}
 use native.Mathlib.Decide.{dec_lt}
 use native.Mathlib.Omega.{arith}
 use borrow.Author.Tests.{lt-ltb, le-ltb}
@@ -15,11 +15,10 @@ use Rattle.aes_cm.proofs.Portions.{before-first}
 use Rattle.suites.specs.declared.suite.Suite.TheVariants.{Gcm}
 use Rattle.rtp_header.specs.declared.header.Layout.{Layout}
 use Rattle.rtp_header.specs.Header.{layout_of, block_of}
-use Rattle.rtp_elements.specs.Mask.{mask_of, masked_pad}
+use Rattle.rtp_elements.specs.Mask.{mask_of}
 use Rattle.policies.specs.declared.policy.Policy.{Policy}
 use Rattle.policies.specs.declared.policy.Policy.TheVariants.{Plain, Cryptex, CryptexRequired, Mask}
 use Rattle.policies.specs.Cryptex.{is_cryptex}
-use Rattle.policies.specs.Policies.{uses_mask}
 use Rattle.packet_cipher.specs.declared.cipher.Portion.{Portion}
 use Rattle.packet_cipher.specs.declared.keys.Keys.{Keys}
 use Rattle.packet_cipher.specs.Cipher.{portion_of, portion_pad_of, block_pad_of, pad_of, crypted_of, stream_of, header_stream_of, cipher_of}
