@@ -1,12 +1,11 @@
 -- A packet put into its wire form: one law for each step.
-use mathlib.Core.Path.{◌≡◌, refl, sym, ap, ap₂, ◌∙◌}
+use mathlib.Core.Path.{◌≡◌, sym, ap, ◌∙◌}
 use mathlib.Core.Bool.{true, false, ◌&&◌}
 use mathlib.Core.List.{List, ◌++◌}
 use Prim.Native.Nat.{ℕ, ◌+◌, ◌-◌, ◌≤◌}
 use native.Mathlib.Omega.{arith}
 use lib.ListN.{length, take, drop}
 use lib.Seq.{take_at, drop_at}
-use Rattle.bits.specs.Pick.{pick}
 use Rattle.rtp_header.specs.declared.header.Layout.{Layout}
 use Rattle.policies.specs.declared.policy.Policy.{Policy}
 use Rattle.policies.specs.Cryptex.{adds_block, cryptex_tag, with_block, written16, tagged_of}
