@@ -24,8 +24,15 @@ returns-then-not-same c =
 pub crypt-requires : goal.crypt-requires
 crypt-requires c =
     let z : c.args.n - 10 - 0 ≡ c.args.n - 10 = omega arith in
-    record { h_value = (rw z (read c.args.policy 10 c.args.buf.now c.args.n c.args.h c.requires.1.0 c.requires.1.1), (rw z (fits c.args.policy 10 c.args.buf.now c.args.n c.args.h c.requires.1.0 c.requires.1.1), rw z (small c.args.policy 10 c.args.buf.now c.args.n c.args.h c.requires.1.0 c.requires.1.1))); packet_value = rw z (elements c.args.policy 10 c.args.buf.now c.args.n c.args.h c.requires.1.0 c.requires.1.1) }
+    record {
+      h_value = (rw z (read c.args.policy 10 c.args.buf.now c.args.n c.args.h c.requires.1.0 c.requires.1.1), (rw z (fits c.args.policy 10 c.args.buf.now c.args.n c.args.h c.requires.1.0 c.requires.1.1), rw z (small c.args.policy 10 c.args.buf.now c.args.n c.args.h c.requires.1.0 c.requires.1.1)));
+      packet_value = rw z (elements c.args.policy 10 c.args.buf.now c.args.n c.args.h c.requires.1.0 c.requires.1.1);
+    }
 
 pub returns : goal.returns
 returns c =
-    let f = tag-fits c.args.policy 10 c.args.buf.now c.args.n c.args.h c.requires.1.0 c.requires.1.1 CmHmac refl c.args.keys c.args.ssrc c.args.index _ (tag-code c.args.keys c.args.policy c.args.ssrc c.args.index _ _ c.code-c.ensures) in record { value = sym c.if-not-same.false ∙ c.same.ensures ∙ f; buf_after = opened c.args.policy 10 c.args.buf.now c.args.n c.args.h c.requires.1.0 c.requires.1.1 CmHmac refl c.args.keys (listed_in c.args.ids.now) c.args.ssrc c.args.index _ c.crypt.ensures }
+    let f = tag-fits c.args.policy 10 c.args.buf.now c.args.n c.args.h c.requires.1.0 c.requires.1.1 CmHmac refl c.args.keys c.args.ssrc c.args.index _ (tag-code c.args.keys c.args.policy c.args.ssrc c.args.index _ _ c.code-c.ensures) in
+    record {
+      value = sym c.if-not-same.false ∙ c.same.ensures ∙ f;
+      buf_after = opened c.args.policy 10 c.args.buf.now c.args.n c.args.h c.requires.1.0 c.requires.1.1 CmHmac refl c.args.keys (listed_in c.args.ids.now) c.args.ssrc c.args.index _ c.crypt.ensures;
+    }

@@ -26,9 +26,18 @@ pub returns-then-adds_block : goal.returns-then-adds_block
 returns-then-adds_block c =
     let a = sym c.adds_block.ensures ∙ c.if-adds_block.true in
     let g = is-added c.requires.n_in_bounds.1.t c.args.policy c.args.buf.now c.args.n c.args.h c.requires.n_in_bounds.0 c.requires.n_in_bounds.1.judged a in
-    record { length_value = rw a; buf_after = c.add_block.ensures ∙ ap (λ (l : List ℕ). l ++ drop (c.args.n + 4) c.args.buf.now) g; shaped = raised c.args.policy c.args.buf.now c.args.n c.args.h c.requires.n_in_bounds.0 c.requires.n_in_bounds.1 a }
+    record {
+      length_value = rw a;
+      buf_after = c.add_block.ensures ∙ ap (λ (l : List ℕ). l ++ drop (c.args.n + 4) c.args.buf.now) g;
+      shaped = raised c.args.policy c.args.buf.now c.args.n c.args.h c.requires.n_in_bounds.0 c.requires.n_in_bounds.1 a;
+    }
 
 pub returns : goal.returns
 returns c =
     let a = sym c.adds_block.ensures ∙ c.if-adds_block.false in
-    let g = not-added c.requires.n_in_bounds.1.t c.args.policy c.args.buf.now c.args.n c.args.h c.requires.n_in_bounds.0 c.requires.n_in_bounds.1.judged a in record { length_value = rw a (omega arith); buf_after = sym (take-append-drop c.args.n c.args.buf.now) ∙ ap (λ (l : List ℕ). l ++ drop c.args.n c.args.buf.now) g; shaped = not-raised c.args.policy c.args.buf.now c.args.n c.args.h c.requires.n_in_bounds.0 c.requires.n_in_bounds.1 a }
+    let g = not-added c.requires.n_in_bounds.1.t c.args.policy c.args.buf.now c.args.n c.args.h c.requires.n_in_bounds.0 c.requires.n_in_bounds.1.judged a in
+    record {
+      length_value = rw a (omega arith);
+      buf_after = sym (take-append-drop c.args.n c.args.buf.now) ∙ ap (λ (l : List ℕ). l ++ drop c.args.n c.args.buf.now) g;
+      shaped = not-raised c.args.policy c.args.buf.now c.args.n c.args.h c.requires.n_in_bounds.0 c.requires.n_in_bounds.1 a;
+    }

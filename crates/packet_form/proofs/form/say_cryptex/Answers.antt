@@ -12,9 +12,16 @@ write_tag-requires c =
 
 pub returns-then-sends_cryptex : goal.returns-then-sends_cryptex
 returns-then-sends_cryptex c =
-    let u = sym c.sends_cryptex.ensures ∙ c.if-sends_cryptex.true in record { packet_after = c.write_tag.ensures ∙ is-tagged c.args.packet.now c.args.h c.requires.layout c.args.policy _ u c.cryptex_tag-tag.ensures; shaped = says c.args.policy c.args.packet.now c.args.h c.requires _ u c.cryptex_tag-tag.ensures }
+    let u = sym c.sends_cryptex.ensures ∙ c.if-sends_cryptex.true in
+    record {
+      packet_after = c.write_tag.ensures ∙ is-tagged c.args.packet.now c.args.h c.requires.layout c.args.policy _ u c.cryptex_tag-tag.ensures;
+      shaped = says c.args.policy c.args.packet.now c.args.h c.requires _ u c.cryptex_tag-tag.ensures;
+    }
 
 pub returns : goal.returns
 returns c =
     let u = sym c.sends_cryptex.ensures ∙ c.if-sends_cryptex.false in
-    record { packet_after = not-tagged c.args.packet.now c.args.h c.requires.layout c.args.policy u; shaped = says-not c.args.policy c.args.packet.now c.args.h c.requires u }
+    record {
+      packet_after = not-tagged c.args.packet.now c.args.h c.requires.layout c.args.policy u;
+      shaped = says-not c.args.policy c.args.packet.now c.args.h c.requires u;
+    }

@@ -18,4 +18,9 @@ pub returns : goal.returns
 returns c =
     let w = c.raise-raised.ensures.shaped in
     let g = given_back_of c.args.policy (take c.args.n c.args.buf.now) in
-    let f = part-front _ g c.args.buf.now _ c.raise-raised.ensures.buf_after w.long in record { length_value = c.raise-raised.ensures.length_value; buf_after = ap₂ (λ (u v : List ℕ). u ++ v) (c.say_cryptex-g.ensures.packet_after ∙ ap (tagged_of c.args.policy) f) (part-back _ g c.args.buf.now _ c.raise-raised.ensures.buf_after w.long); shaped = rw (f, w.long) at c.say_cryptex-g.ensures.shaped }
+    let f = part-front _ g c.args.buf.now _ c.raise-raised.ensures.buf_after w.long in
+    record {
+      length_value = c.raise-raised.ensures.length_value;
+      buf_after = ap₂ (λ (u v : List ℕ). u ++ v) (c.say_cryptex-g.ensures.packet_after ∙ ap (tagged_of c.args.policy) f) (part-back _ g c.args.buf.now _ c.raise-raised.ensures.buf_after w.long);
+      shaped = rw (f, w.long) at c.say_cryptex-g.ensures.shaped;
+    }
