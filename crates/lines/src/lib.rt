@@ -8,3 +8,4 @@ pub mod cut;
 pub mod hex;
 pub mod number;
 pub mod outcome;
+pub mod whole;
