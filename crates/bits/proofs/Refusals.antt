@@ -1,5 +1,5 @@
 -- The numbers of the refusals.
-use Prim.Native.Nat.{ℕ, ◌<◌}
+use Prim.Native.Nat.{◌<◌}
 use native.Mathlib.Omega.{arith}
 use Rattle.bits.specs.Refusals.{number_of}
 use Rattle.bits.specs.declared.refusal.Refusal.{Refusal}

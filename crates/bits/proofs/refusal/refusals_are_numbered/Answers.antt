@@ -5,8 +5,7 @@ use lib.ListN.{get_or}
 use Rattle.bits.specs.declared.refusal.Refusal.{Refusal}
 use Rattle.bits.specs.declared.refusal.Refusal.TheVariants.{Length, Short, Version, Header, Profile, Element, Large, Room, Stream, Order, Worn, Old, Repeat, Tag, Keys, Policy, Twice, Full, Absent}
 use Rattle.bits.specs.Refusals.{number_of, refusals}
-use Rattle.bits.proofs.refusal.refusals_are_numbered.Statement.{statement}
-use Rattle.bits.proofs.refusal.refusals_are_numbered.Tie as tie
+use Rattle.bits.proofs.refusal.refusals_are_numbered.Goals as goal
 
 in-its-row : (r : Refusal) → get_or refusals (number_of r - 1) Length ≡ r
 in-its-row Length = refl
@@ -29,8 +28,5 @@ in-its-row Twice = refl
 in-its-row Full = refl
 in-its-row Absent = refl
 
-returns : tie.Need-returns
+pub returns : goal.returns
 returns c = record { numbers = refl; rows = in-its-row }
-
-pub refusals-are-numbered-spec : {M : Type 1} → statement M
-refusals-are-numbered-spec = tie.close (tie.spec returns)
