@@ -12,7 +12,7 @@ use aes_columns::column::add_round_key;
 use aes_keys::key_schedule::expand;
 
 // A key and a starting block, with what the first two rounds of its blocks have in common.
-#[derive(Drop)]
+#[derive(Clone, Copy)]
 pub struct Start {
     pub key: [u8; 16],
     pub block: [u8; 16],

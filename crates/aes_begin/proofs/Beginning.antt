@@ -7,7 +7,7 @@ use Rattle.bits.specs.Xor.{◌⊕◌, xor_list}
 use Rattle.aes_begin.specs.declared.begin.Begun.{Begun}
 use Rattle.aes_tables.specs.Cipher.{sbox_of, at, mix_column, round_of}
 use Rattle.aes_tables.specs.Tables.{unpack_of, row0_of, row1_of, row2_of, row3_of}
-use Rattle.aes_shared.specs.Shared.{key_word, FirstColumns, SecondColumns}
+use Rattle.aes_shared.specs.Shared.{key_word, SecondColumns}
 use Rattle.aes_begin.specs.Steps.{Begins}
 use Rattle.aes_tables.proofs.Rounds.{round_is}
 use Rattle.aes_tables.proofs.Words.{cons4}

@@ -11,7 +11,7 @@ use aes_shared::columns::{first_columns, second_columns, whole_columns};
 
 // After the first round: columns 0 and 1, as numbers, without what the last two bytes bring, and columns 2 and 3, which these do not reach. After the
 // second: columns 0 to 3, as numbers, without what columns 0 and 1 bring.
-#[derive(Drop)]
+#[derive(Clone, Copy)]
 pub struct Begun {
     pub first: [u32; 2],
     pub column2: [u8; 4],

@@ -5,7 +5,7 @@ ghost use Rattle.aes_cm.specs.Derivation.{derived_of, session_keys_of};
 
 use keystream::stretch::stretch;
 
-#[derive(Drop)]
+#[derive(Clone, Copy)]
 pub struct SessionKeys {
     pub cipher: [u8; 16],
     pub auth: [u8; 20],

@@ -1,8 +1,8 @@
 -- The key schedule: FIPS 197's words, one at a time, are the code's round keys, four words at a time.
-use mathlib.Core.Path.{◌≡◌, refl, sym, ap, ap₂, ◌∙◌, subst}
+use mathlib.Core.Path.{◌≡◌, refl, sym, ap, ap₂, ◌∙◌}
 use mathlib.Core.Logic.{⊎_elim}
-use mathlib.Core.Bool.{Bool, true, false}
-use mathlib.Core.List.{List, [], ◌∷◌, ◌++◌}
+use mathlib.Core.Bool.{Bool}
+use mathlib.Core.List.{List, [], ◌∷◌}
 use Prim.Native.Nat.{ℕ, zero, suc, ◌+◌, ◌-◌, ◌*◌, ◌/◌, ◌%◌, ◌≤◌, ◌<◌}
 use native.Mathlib.Nat.{eq-or-lt_of_le}
 use native.Mathlib.Omega.{arith}
@@ -13,7 +13,7 @@ use Rattle.bits.specs.Lists.{tabulate}
 use Rattle.bits.specs.Pick.{pick}
 use Rattle.bits.specs.Xor.{xor_list}
 use Rattle.bits.proofs.Lists.{tabulated}
-use Rattle.aes_tables.specs.Keys.{sub_word, rot_word, pow_x, rcon, temp_of, word_of, words_of, round_key_of, round_keys_of}
+use Rattle.aes_tables.specs.Keys.{sub_word, rot_word, pow_x, rcon, temp_of, word_of, words_of, round_key_of}
 use Rattle.aes_keys.specs.NextKey.{next_key_of}
 use Rattle.aes_tables.proofs.Rounds.{words-none, words-next, powers}
 use Rattle.aes_tables.proofs.Words.{cons4}

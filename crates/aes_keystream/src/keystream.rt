@@ -10,7 +10,7 @@ use aes::blocks::{Start, block};
 use block_xor::part::{xor_bytes, xor_part};
 
 // The next byte of the keystream is number `at`; `block` is the block it stands in, unless that is still to be made.
-#[derive(Drop)]
+#[derive(Clone, Copy)]
 pub struct Keystream {
     pub block: [u8; 16],
     pub at: usize,

@@ -1,13 +1,12 @@
 -- The round table: its rule at each byte of each entry, from the rule of the S-box, and the columns that are read from an entry.
-use mathlib.Core.Path.{◌≡◌, refl, sym, ap, ap₂, ◌∙◌, subst}
-use mathlib.Core.List.{List, []}
+use mathlib.Core.Path.{◌≡◌, ap, ap₂, ◌∙◌}
+use mathlib.Core.List.{List}
 use Prim.Native.Nat.{ℕ, ◌+◌, ◌*◌, ◌/◌, ◌%◌, ◌<◌}
 use native.Mathlib.Omega.{arith}
 use lib.Dec.{T, eqb}
 use lib.ListN.{length, get_or}
 use Rattle.bits.specs.Lists.{tabulate}
 use Rattle.bits.proofs.Table.{every, rule}
-use Rattle.aes_tables.specs.Field.{◌•◌}
 use Rattle.aes_tables.specs.Cipher.{sbox_of}
 use Rattle.aes_tables.specs.Tables.{row0_of, row1_of, row2_of, row3_of, RoundTable}
 use Rattle.aes_tables.proofs.Words.{cons4}

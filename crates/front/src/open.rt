@@ -19,7 +19,7 @@ use suites::suite::tag_length;
 
 // The header reader's answer, which now also says whether the packet has room, a stream and an index; the place of the stream's record, and the index.
 // `number` is what the call gives back: 0, the refusal's, or the border's where the memory has another size.
-#[derive(Drop)]
+#[derive(Clone, Copy)]
 pub struct Opened {
     pub number: u32,
     pub header: Header,

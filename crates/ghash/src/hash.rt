@@ -12,7 +12,7 @@ use gf128::block::{Block, read, xor};
 use gf128_product::product::product;
 
 // The value of the whole blocks so far, with the bytes of the block begun added to it; and the number of bytes so far.
-#[derive(Drop)]
+#[derive(Clone, Copy)]
 pub struct Hash {
     pub value: Block,
     pub at: usize,

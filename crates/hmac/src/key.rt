@@ -7,7 +7,7 @@ ghost use Rattle.hmac.specs.Steps.{state_of, states_of, key_states_of};
 use sha1::digest::{sha1, start};
 use sha1_message::message::blocks;
 
-#[derive(Drop)]
+#[derive(Clone, Copy)]
 pub struct KeyStates {
     pub inner: [u32; 5],
     pub outer: [u32; 5],

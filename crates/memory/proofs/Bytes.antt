@@ -13,7 +13,7 @@ use Rattle.bits.specs.Lists.{tabulate}
 use Rattle.bits.proofs.BigEndian.{to-from}
 use Rattle.bits.proofs.Bytes.{are-bytes, first_byte, other-bytes, cons-bytes}
 use Rattle.bits.proofs.Lists.{tabulated, tabulate-ext}
-use Rattle.memory.specs.Words.{word, halves, Array, Lasts, Numbers5}
+use Rattle.memory.specs.Words.{halves, Array, Lasts, Numbers5}
 
 take-bytes : (n : ℕ) (l : List ℕ) → T (are_bytes l) → T (are_bytes (take n l))
 take-bytes zero l t = tt

@@ -15,7 +15,7 @@ use policies::uses::{is_cryptex, uses_mask};
 use rtp_header::header::Layout;
 
 // The bytes from `first` up to `stop`, and then from `rest` on, in one unbroken keystream.
-#[derive(Drop)]
+#[derive(Clone, Copy)]
 pub struct Portion {
     pub first: usize,
     pub stop: usize,

@@ -23,7 +23,7 @@ fn sends_cryptex(policy: Policy, h: Layout) -> bool
 }
 
 // A packet's new length and its layout.
-#[derive(Drop)]
+#[derive(Clone, Copy)]
 pub struct Formed {
     pub length: usize,
     pub layout: Layout,

@@ -1,7 +1,7 @@
 // The policies and the two ways of document 01.
 
 // Policies 0 to 3.
-#[derive(Drop)]
+#[derive(Clone, Copy)]
 pub enum Policy {
     Plain,
     Cryptex,
@@ -9,7 +9,7 @@ pub enum Policy {
     Mask,
 }
 
-#[derive(Drop)]
+#[derive(Clone, Copy)]
 pub enum Way {
     Sending,
     Receiving,

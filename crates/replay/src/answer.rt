@@ -5,14 +5,14 @@ ghost use Rattle.replay.specs.Answers.{told_of};
 use bits::refusal;
 use bits::refusal::Refusal;
 
-#[derive(Drop)]
+#[derive(Clone, Copy)]
 pub enum Judged {
     Index(u64),
     Refused(Refusal),
 }
 
 // The answer in document 01's terms: its number, and the index, which is 0 with a refusal.
-#[derive(Drop)]
+#[derive(Clone, Copy)]
 pub struct Told {
     pub number: u8,
     pub index: u64,

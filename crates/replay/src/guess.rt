@@ -4,7 +4,7 @@ ghost use Rattle.std.proofs.Math.IntN.{sub_ℕ};
 ghost use Rattle.replay.specs.Steps.{offset_of};
 
 // The guessed index is `highest + up - down`. Two unsigned numbers, so that the index can be tested against 0 before it is made.
-#[derive(Drop)]
+#[derive(Clone, Copy)]
 pub struct Offset {
     pub up: u32,
     pub down: u32,

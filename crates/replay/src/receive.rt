@@ -15,7 +15,7 @@ use crate::ring::{mark, seen};
 use bits::refusal::Refusal;
 
 // `distance` is the guessed index less the highest accepted one, from -32,768 to 32,768. Of a stream's first packet it is free, and told as 0.
-#[derive(Drop)]
+#[derive(Clone, Copy)]
 pub struct Arrival {
     pub judged: Judged,
     pub distance: i32,

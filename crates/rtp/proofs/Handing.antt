@@ -1,14 +1,11 @@
 -- From what was found in the block to the part of the packet that is handed back.
 use mathlib.Core.Path.{◌≡◌, refl}
-use mathlib.Core.Logic.{⊎_elim}
-use mathlib.Core.List.{List, [], ◌∷◌}
+use mathlib.Core.List.{List}
 use Prim.Native.Nat.{ℕ, ◌+◌, ◌-◌, ◌≤◌}
 use native.Mathlib.Omega.{arith}
-use denote.Enum.Declared.{tag_of}
 use denote.Ref.{Bor}
 use lib.ListN.{length, take, drop, length-drop}
 use lib.Seq.{length-take-le}
-use types.Run.{OneOf}
 use Rattle.bits.specs.Refusals.{number_of}
 use Rattle.bits.specs.declared.refusal.Refusal.{Refusal}
 use Rattle.rtp_elements.specs.declared.element.Element.{Element}
@@ -21,11 +18,10 @@ use Rattle.rtp_elements.specs.Numbers.{found_number}
 use Rattle.rtp_header.specs.Header.{header_of, block_of}
 use Rattle.rtp.specs.Steps.{Inside}
 use Rattle.rtp_header.specs.Order.{Ordered}
-use Rattle.rtp_elements.specs.contracts.element.Found.{the_type}
 
 -- an answer that is not `At` is a refusal
-pub refused-part : (f : Found) (block : ℕ) → OneOf (1 ∷ 2 ∷ []) (tag_of the_type f) → part_of block f ≡ refused_part (found_number f)
-refused-part (At e) block o = absurd (⊎_elim (λ h. omega arith) (λ h. omega arith) o)
+pub refused-part : (f : Found) (block : ℕ) → ((e : Element) → f ≡ At e → ⊥) → part_of block f ≡ refused_part (found_number f)
+refused-part (At e) block o = absurd (o e refl)
 refused-part Absent block o = refl
 refused-part Past block o = refl
 

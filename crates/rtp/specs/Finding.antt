@@ -2,8 +2,6 @@
 use Rattle.std.specs.Prelude.{◌≡◌, List, [], ◌∷◌, ℕ, ◌+◌, ◌≤◌, eqb, length, take, drop}
 use Rattle.std.specs.Borrow.{Bor}
 use Rattle.bits.specs.Pick.{pick}
-use Rattle.bits.specs.Refusals.{number_of}
-use Rattle.bits.specs.declared.refusal.Refusal.TheVariants as refusal
 use Rattle.rtp_elements.specs.declared.element.Element.{Element}
 use Rattle.rtp_elements.specs.declared.element.Found.{Found}
 use Rattle.rtp_elements.specs.declared.element.Found.TheVariants.{At, Absent, Past}
@@ -47,7 +45,7 @@ unfoldable pub find_of : List ℕ → ℕ → Part
 find_of p id = found_in p id (header_of p 0)
 
 -- What a call hands back: the answer, the bytes, and where they lie. `object` and `place` say that r is a part of the caller's packet
--- and no copy: ptr r .0 is the object, ptr r .1 the place of its first byte there.
+-- and no copy: r.ref_ptr.0 is the object, r.ref_ptr.1 the place of its first byte there.
 pub record HandedBack (packet : Bor (List ℕ)) (part : Part) (answer : ℕ) (r : Bor (List ℕ)) : Type 0 where
   pub answered : answer ≡ part.number
   pub inside : part.begin + part.length ≤ length packet.now

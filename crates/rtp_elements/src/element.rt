@@ -7,7 +7,7 @@ ghost use Rattle.rtp_elements.specs.Next.{next_by, next_of};
 use bits::refusal::{Refusal, number};
 
 // An element: its id, where in the block its data begins, and the data's length.
-#[derive(Drop)]
+#[derive(Clone, Copy)]
 pub struct Element {
     pub id: u8,
     pub begin: usize,
@@ -15,7 +15,7 @@ pub struct Element {
 }
 
 // An element that was sought; none; or one that runs past its block.
-#[derive(Drop)]
+#[derive(Clone, Copy)]
 pub enum Found {
     At(Element),
     Absent,

@@ -7,7 +7,7 @@ use bits::big_endian::read16;
 use bits::refusal::{Refusal, number};
 
 // Where the parts of a packet begin. Without an extension (X = 0) the tag is 0, and block and payload begin after the contributing sources.
-#[derive(Drop)]
+#[derive(Clone, Copy)]
 pub struct Layout {
     pub cc: usize,
     pub x: bool,
@@ -19,7 +19,7 @@ pub struct Layout {
 }
 
 // The layout, or why the header cannot be read.
-#[derive(Drop)]
+#[derive(Clone, Copy)]
 pub enum Header {
     Read(Layout),
     Refused(Refusal),

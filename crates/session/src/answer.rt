@@ -6,7 +6,7 @@ use bits::refusal::{Refusal, number};
 
 // 0 or the number of a refusal, and the packet's new length: 0 with a refusal.
 #[repr(C)]
-#[derive(Drop)]
+#[derive(Clone, Copy)]
 pub struct Answer {
     pub number: u32,
     pub length: usize,

@@ -1,5 +1,5 @@
 // Where a record stands among the 32.
-#[derive(Drop)]
+#[derive(Clone, Copy)]
 pub enum Place {
     At(usize),
     Nowhere,

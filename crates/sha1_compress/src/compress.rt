@@ -7,7 +7,7 @@ use sha1_words::word;
 use std::num::wrapping_add_u32;
 
 // The working variables a to e, and the sixteen words kept.
-#[derive(Drop)]
+#[derive(Clone, Copy)]
 pub struct Working {
     pub state: [u32; 5],
     pub words: [u32; 16],

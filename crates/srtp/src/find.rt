@@ -8,7 +8,7 @@ use rtp_header::header::{Header, header_number, read_header};
 
 // 0 or the number of a refusal; where in the packet the element's data begins, and how long it is: 0 and 0 with a refusal.
 #[repr(C)]
-#[derive(Drop)]
+#[derive(Clone, Copy)]
 pub struct Part {
     pub number: u32,
     pub begin: usize,

@@ -3,7 +3,7 @@ ghost use Rattle.std.specs.Prelude.{◌≡◌, ◌≤◌};
 ghost use Rattle.suites.specs.Suites.{suite_number, suite_of, salt_length_of, tag_length_of, last_policy_of};
 
 // AES_CM_128_HMAC_SHA1_80 of RFC 3711, and AEAD_AES_128_GCM of RFC 7714.
-#[derive(Drop)]
+#[derive(Clone, Copy)]
 pub enum Suite {
     CmHmac,
     Gcm,
