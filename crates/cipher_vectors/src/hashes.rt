@@ -1,7 +1,7 @@
 // SHA-1 and HMAC-SHA1.
 use hmac::mac::hmac;
 use lines::hex::put_line;
-use sha1::digest::{digest, sha1, start};
+use sha1_digest::digest::{digest, sha1, start};
 use sha1_message::message::{blocks, finish};
 use std::io;
 

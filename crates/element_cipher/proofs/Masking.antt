@@ -1,15 +1,12 @@
 -- Masking a block in place, an element at a time.
 use mathlib.Core.Path.{◌≡◌, refl, sym, ap, ap₂, ◌∙◌, fun_ext}
 use mathlib.Core.Bool.{Bool, true, false, not, true≢false}
-use mathlib.Core.Logic.{⊎_elim}
-use mathlib.Core.List.{List, [], ◌∷◌, ◌++◌, append_assoc}
+use mathlib.Core.List.{List, ◌++◌, append_assoc}
 use Prim.Native.Nat.{ℕ, ◌+◌, ◌-◌, ◌≤◌, ◌<◌}
 use native.Mathlib.Omega.{arith}
-use denote.Enum.Declared.{tag_of}
 use lib.Dec.{eqb}
 use lib.ListN.{length, get_or, take, drop, length-append, length-drop}
 use lib.Seq.{take-add, take_at, drop_at, drop-drop, length-take-le}
-use types.Run.{OneOf}
 use Rattle.bits.specs.Pick.{pick}
 use Rattle.bits.specs.Xor.{xor_pad}
 use Rattle.bits.proofs.Xor.{length-pad, pad-ext, pad-none}
@@ -21,7 +18,6 @@ use Rattle.rtp_elements.specs.declared.element.Found.TheVariants.{At, Absent, Pa
 use Rattle.rtp_elements.specs.Elements.{NextByte, two_byte, start_of, within, whole_from, whole_of}
 use Rattle.rtp_elements.specs.Mask.{mask_of, masked_pad, masked_of}
 use Rattle.rtp_elements.specs.Next.{next_of}
-use Rattle.rtp_elements.specs.contracts.element.Found.{the_type}
 use Rattle.rtp_elements.proofs.Walks.{masked_from, masked-all, masked-is}
 use Rattle.rtp_elements.proofs.Stepping.{to_mask, Stepped, Over, next-absent, next_past, next-over}
 
@@ -48,9 +44,9 @@ module _ (listed : ℕ → Bool) (tag : ℕ) (pad : ℕ → ℕ) where
   masking-end block₀ block i m l = ended block₀ block i m (next-absent tag block i (sym (next-over tag block i l)))
 
   -- the walk's end: an element that runs past is excluded
-  pub masking-stop : (block₀ block : List ℕ) (i : ℕ) (f : Found) → Masking block₀ block i → f ≡ next_of tag block i → OneOf (1 ∷ 2 ∷ []) (tag_of the_type f)
+  pub masking-stop : (block₀ block : List ℕ) (i : ℕ) (f : Found) → Masking block₀ block i → f ≡ next_of tag block i → ((e : Element) → f ≡ At e → ⊥)
       → block ≡ masked_of listed tag pad block₀
-  masking-stop block₀ block i (At e) m q o = absurd (⊎_elim (λ h. omega arith) (λ h. omega arith) o)
+  masking-stop block₀ block i (At e) m q o = absurd (o e refl)
   masking-stop block₀ block i Absent m q o = ended block₀ block i m (next-absent tag block i (sym q))
   masking-stop block₀ block i Past m q o = absurd (true≢false (sym m.whole ∙ next_past tag block i (sym q)))
 

@@ -4,9 +4,8 @@ use mathlib.Core.List.{List, ◌++◌, append_assoc, append-nil}
 use Prim.Native.Nat.{ℕ, ◌+◌, ◌-◌, ◌%◌, ◌≤◌}
 use native.Mathlib.Omega.{arith}
 use lib.ListN.{length, take, drop, replicate, length-append, length-replicate, length-drop}
-use lib.Seq.{take-add, take_all, length-take-le}
+use lib.Seq.{take-add, take_all}
 use Rattle.ghash.specs.Ghash.{ghash_of, zeros_of, padded_of, lengths_of}
-use Rattle.ghash.proofs.Feeding.{part_length}
 use Rattle.gcm_hash.specs.Hash.{hash_of}
 use Rattle.gcm_hash.specs.Portion.{outside_of, inside_of}
 

@@ -4,7 +4,7 @@ ghost use Rattle.bits.specs.Xor.{xor_pad};
 ghost use Rattle.hmac.specs.Hmac.{filled_of};
 ghost use Rattle.hmac.specs.Steps.{state_of, states_of, key_states_of};
 
-use sha1::digest::{sha1, start};
+use sha1_digest::digest::{sha1, start};
 use sha1_message::message::blocks;
 
 #[derive(Clone, Copy)]

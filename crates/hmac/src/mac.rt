@@ -6,8 +6,8 @@ ghost use Rattle.hmac.specs.Hmac.{hmac_of};
 ghost use Rattle.hmac.specs.Steps.{mac_of, KeyStatesGiveTheMac};
 
 use crate::key::{KeyStates, key_states};
-use sha1::digest::digest;
 use sha1_compress::compress::compress;
+use sha1_digest::digest::digest;
 use sha1_message::message::finish;
 
 // The last block of the outer hash: the inner hash value, padded after the key's block, is 84 bytes or 672 bits.

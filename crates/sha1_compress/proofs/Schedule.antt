@@ -1,5 +1,5 @@
 -- The sixteen words kept are those of FIPS 180-4's message schedule.
-use Rattle.std.proofs.Common.{◌≡◌, ℕ, zero, suc, ◌+◌, ◌-◌, ◌<◌, ◌≤◌, List, [], ◌∷◌, ◌++◌, length, get_or, take, drop, sym, ap, ◌∙◌, ap₂, add-zero, add-suc, arith, length-append, length-drop, drop_of_length-le, length-take-le, get_or-drop, take_all, drop-cons, get_or-take, take-suc}
+use Rattle.std.proofs.Common.{◌≡◌, ℕ, zero, suc, ◌+◌, ◌-◌, ◌<◌, ◌≤◌, List, [], ◌∷◌, ◌++◌, length, get_or, take, drop, sym, ap, ◌∙◌, ap₂, add-zero, add-suc, arith, length-append, length-drop, drop_of_length-le, get_or-drop, take_all, drop-cons, get_or-take, take-suc}
 use lib.Bits.{bit_xor}
 use lib.ListN.{get_or-append}
 use lib.Seq.{get_or_at, take-append-le}

@@ -1,5 +1,5 @@
 -- The code's steps are FIPS 180-4's.
-use Rattle.std.proofs.Common.{◌≡◌, ℕ, suc, ◌+◌, ◌-◌, ◌<◌, ◌≤◌, List, length, get_or, sym, refl, ap, ◌∙◌, ap₂, add-one, arith}
+use Rattle.std.proofs.Common.{◌≡◌, ℕ, suc, ◌+◌, ◌-◌, ◌<◌, List, length, get_or, sym, ap, ◌∙◌, ap₂, add-one, arith}
 use Rattle.sha1_compress.specs.declared.compress.Working.{Working}
 use Rattle.sha1_words.specs.Words.{f_of, k_of}
 use Rattle.sha1_compress.specs.Hash.{step_with, step_of, steps_of, schedule_of, sum_of, compress_of}
