@@ -8,12 +8,8 @@ use Rattle.replay.specs.Send.{step_of, next_of, send_of}
 use Rattle.replay.specs.State.{judge_of, accept_of}
 use Rattle.replay.specs.Window.{seen_in, mark_of}
 use Rattle.theorems.specs.Sums.{SumsHold}
-use Rattle.theorems.proofs.claims.sums_hold.Statement.{statement}
-use Rattle.theorems.proofs.claims.sums_hold.Tie as tie
+use Rattle.theorems.proofs.claims.sums_hold.Goals as goal
 
-returns : tie.Need-returns
+pub returns : goal.returns
 unfolding SumsHold whole_of mask_of guess_of distance_of receive_of step_of next_of send_of judge_of accept_of seen_in mark_of
 returns c = (refl, (refl, (refl, (refl, (refl, (refl, (refl, (refl, (refl, (refl, (refl, (refl, (refl, tt)))))))))))))
-
-pub sums-hold-spec : {M : Type 1} → statement M
-sums-hold-spec = tie.close (tie.spec returns)
