@@ -1,10 +1,13 @@
 // A line of the script, answered by its first word. Each call puts its answer together and gives back how long it is: 0 for a line that cannot be read,
 // which changes nothing.
+ghost use Rattle.std.specs.Prelude.{◌≡◌, length};
+
 use crate::sessions::on_session;
 use element_lines::find::find_element;
 use index_lines::guess::guess_index;
 use mask_lines::mask::mask_block;
 use memory::copying::clear;
+use std::io;
 use stretch_lines::stretch::stretch_data;
 use text::words::{count, first_among, well_spaced};
 use text_output::output::{put_text, write_line};
@@ -54,11 +57,14 @@ fn is_silent(line: &[u8]) -> bool {
     (line[0] == 35) & (line.len() <= 20000)
 }
 
-pub fn answer(desk: &mut [u64], line: &[u8]) {
+// After an error of writing, the call was made: the sessions are as after an answer that was written.
+pub fn answer(rt: &impl Print, desk: &mut [u64], line: &[u8]) -> io::Result<()>
+    ensures { length desk.new ≡ length desk.old }
+{
     if is_silent(line) {
-        return;
+        return Ok(());
     }
     let mut out = [0u8; 20001];
     let length = command(desk, line, &mut out);
-    write_line(&mut out, length);
+    write_line(rt, &mut out, length)
 }

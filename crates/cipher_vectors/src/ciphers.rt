@@ -5,35 +5,36 @@ use aes_cm::derivation::derive;
 use keystream::call::stretch_call;
 use lines::arrays::{array14, array16};
 use lines::hex::{put, put_line};
+use std::io;
 
-pub fn block(key: &[u8], block: &[u8]) {
+pub fn block(rt: &impl Print, key: &[u8], block: &[u8]) -> io::Result<()> {
     let b = aes128(state(array16(key)), state(array16(block)));
-    put(&b[0]);
-    put(&b[1]);
-    put(&b[2]);
-    put_line(&b[3]);
+    put(rt, &b[0])?;
+    put(rt, &b[1])?;
+    put(rt, &b[2])?;
+    put_line(rt, &b[3])
 }
 
 // Block j of the keystream of SSRC 0 and index 0, as a stretch.
-pub fn keystream(key: &[u8], salt: &[u8], j: u64) {
+pub fn keystream(rt: &impl Print, key: &[u8], salt: &[u8], j: u64) -> io::Result<()> {
     let mut block = [0u8; 16];
     stretch_call(key, salt, 0, 0, j % 65536 * 16, &mut block);
-    put_line(&block);
+    put_line(rt, &block)
 }
 
 // The three blocks from block j on, as two neighbouring stretches that meet inside a block.
-pub fn neighbours(key: &[u8], salt: &[u8], j: u64) {
+pub fn neighbours(rt: &impl Print, key: &[u8], salt: &[u8], j: u64) -> io::Result<()> {
     let start = j % 65536 * 16;
     let mut front = [0u8; 21];
     let mut back = [0u8; 27];
     stretch_call(key, salt, 0, 0, start, &mut front);
     stretch_call(key, salt, 0, 0, start + 21, &mut back);
-    put(&front);
-    put_line(&back);
+    put(rt, &front)?;
+    put_line(rt, &back)
 }
 
 // What is derived for a label from a master key and salt.
-pub fn derived(key: &[u8], salt: &[u8], label: u64) {
+pub fn derived(rt: &impl Print, key: &[u8], salt: &[u8], label: u64) -> io::Result<()> {
     let k = derive(array16(key), array14(salt));
     let cipher = k.cipher;
     let auth = k.auth;
@@ -41,10 +42,10 @@ pub fn derived(key: &[u8], salt: &[u8], label: u64) {
     let header_cipher = k.header_cipher;
     let header_salt = k.header_salt;
     match label {
-        0 => put_line(&cipher),
-        1 => put_line(&auth),
-        2 => put_line(&salt),
-        6 => put_line(&header_cipher),
-        _ => put_line(&header_salt),
+        0 => put_line(rt, &cipher),
+        1 => put_line(rt, &auth),
+        2 => put_line(rt, &salt),
+        6 => put_line(rt, &header_cipher),
+        _ => put_line(rt, &header_salt),
     }
 }

@@ -5,11 +5,11 @@ use aes_cm::derivation::derive;
 use aes_tables::tables;
 use element_cipher::elements::crypt_elements;
 use keystream::stretch::stretch;
-use libc::STDOUT_FILENO;
 use lines::arrays::{array14, array16};
 use lines::hex::put_line;
 use rtp::find::find;
 use rtp_elements::element::whole;
+use std::io;
 
 // The first 24 bytes of the header keystream under a master key and salt: SSRC cafebabe, sequence number 1234, rollover counter 0.
 fn header_pad(key: &[u8], salt: &[u8]) -> [u8; 24]
@@ -23,17 +23,19 @@ fn header_pad(key: &[u8], salt: &[u8]) -> [u8; 24]
     pad
 }
 
-pub fn pad(key: &[u8], salt: &[u8]) {
-    put_line(&header_pad(key, salt));
+pub fn pad(rt: &impl Print, key: &[u8], salt: &[u8]) -> io::Result<()> {
+    put_line(rt, &header_pad(key, salt))
 }
 
-// The listed elements of the block under that keystream.
-pub fn masked(key: &[u8], salt: &[u8], block: &mut [u8]) {
+// The listed elements of the block under that keystream. After an error of printing, they are under it all the same.
+pub fn masked(rt: &impl Print, key: &[u8], salt: &[u8], block: &mut [u8]) -> io::Result<()>
+    ensures { length block.new ≡ length block.old }
+{
     if block.len() != 24 {
-        return;
+        return Ok(());
     }
     if !whole(block, 0xBEDE) {
-        return;
+        return Ok(());
     }
     let k = derive(array16(key), array14(salt));
     let header_cipher = k.header_cipher;
@@ -52,15 +54,13 @@ pub fn masked(key: &[u8], salt: &[u8], block: &mut [u8]) {
         0xBEDE,
         &listed,
     );
-    put_line(block);
+    put_line(rt, block)
 }
 
 // An element of a packet, found in it: the part of the packet that is handed back.
-pub fn element(packet: &[u8], id: u64) {
+pub fn element(rt: &impl Print, packet: &[u8], id: u64) -> io::Result<()> {
     let mut answer: u8 = 0;
     let part = find(packet, (id % 256) as u8, &mut answer);
-    io::write_all(STDOUT_FILENO, b"answer ");
-    io::print_decimal(STDOUT_FILENO, answer as u64);
-    io::write_all(STDOUT_FILENO, b" data ");
-    put_line(part);
+    print!(rt; "answer {answer} data ")?;
+    put_line(rt, part)
 }

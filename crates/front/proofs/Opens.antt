@@ -6,7 +6,6 @@ use native.Mathlib.Omega.{arith}
 use borrow.Author.Tests.{eq-eqb, ne_eqb, lt-ltb, le-ltb}
 use lib.ListN.{length, take}
 use lib.Seq.{length-take-le}
-use Rattle.bits.specs.Refusals.{number_of}
 use Rattle.bits.specs.declared.refusal.Refusal.{Refusal}
 use Rattle.bits.specs.declared.refusal.Refusal.TheVariants as refusal
 use Rattle.memory.specs.Words.{word}
@@ -28,7 +27,7 @@ use Rattle.session.specs.Places.{place_from}
 use Rattle.records.specs.Tracks.{record_in, judged_by}
 use Rattle.policies.proofs.Layouts.{apart}
 use Rattle.front.specs.declared.open.Opened.{Opened}
-use Rattle.front.specs.Opening.{shut, no_memory, open_index, open_at, stream_of, open_of, PlacedAt, InStream, Ready, ReadyAt, OpensAs}
+use Rattle.front.specs.Opening.{shut, no_memory, open_index, open_at, stream_of, open_of, PlacedAt, InStream, ReadyAt, OpensAs}
 
 -- a packet that was judged has its fixed header, and one that arrived its tag
 module _ (way : Way) (policy : Policy) (t : ℕ) (buf : List ℕ) (n : ℕ) (h : Layout) (inside : n ≤ length buf) (read : judged_of way policy t (take n buf) ≡ Read h) where

@@ -1,7 +1,8 @@
 // The input, cut into lines.
-ghost use Rattle.std.specs.Prelude.{◌≤◌, length};
+ghost use Rattle.std.specs.Prelude.{◌≡◌, ◌≤◌, length, IfOk, OnErr};
 
-use libc::STDIN_FILENO;
+use std::io;
+use std::io::Read;
 use text::words::place_of;
 use text_output::output::put_text;
 
@@ -26,18 +27,25 @@ fn last_line(used: usize) -> LineRead
 }
 
 // A read of the input: how many bytes it gave, 0 at the end.
-fn refill(chunk: &mut [u8]) -> usize
-    ensures { result ≤ length chunk.new }
+fn refill(input: &mut impl Read, chunk: &mut [u8]) -> io::Result<usize>
+    ensures { IfOk result (λ got. got ≤ length chunk.new) }
 {
-    let got = libc::read(STDIN_FILENO, chunk);
-    io::count(got, chunk)
+    input.read(chunk)
 }
 
 // The next line, without its line feed; what does not fit is left out. Where the input ends in the middle of a line that is one too. A proved loop has
-// to end, and nothing says that the input does: it counts its turns down from a number that no run uses up.
-pub fn next_line(line: &mut [u8], chunk: &mut [u8], start: usize, end: usize) -> LineRead
+// to end, and nothing says that the input does: it counts its turns down from a number that no run uses up. The one error is that of a read that failed:
+// the line then holds what was read of it before, and what the chunk holds is not told.
+pub fn next_line(
+    input: &mut impl Read,
+    line: &mut [u8],
+    chunk: &mut [u8],
+    start: usize,
+    end: usize,
+) -> io::Result<LineRead>
     requires { (start ≤ end) × (end ≤ length chunk.old) }
-    ensures { (result.from ≤ result.filled) × (result.filled ≤ length chunk.new) }
+    ensures ok { IfOk result (λ r. (r.from ≤ r.filled) × (r.filled ≤ length chunk.new)) }
+    ensures err { OnErr result ((length line.new ≡ length line.old) × (length chunk.new ≡ length chunk.old)) }
 {
     let mut used: usize = 0;
     let mut from = start;
@@ -47,19 +55,19 @@ pub fn next_line(line: &mut [u8], chunk: &mut [u8], start: usize, end: usize) ->
         let feed = place_of(&chunk[0..filled], from, 10);
         used = put_text(line, used, &chunk[from..feed]);
         if feed < filled {
-            return LineRead {
+            return Ok(LineRead {
                 used: used,
                 ended: false,
                 from: feed + 1,
                 filled: filled,
-            };
+            });
         }
         from = 0;
-        filled = refill(chunk);
+        filled = refill(input, chunk)?;
         if filled == 0 {
-            return last_line(used);
+            return Ok(last_line(used));
         }
         turns -= 1;
     }
-    last_line(used)
+    Ok(last_line(used))
 }

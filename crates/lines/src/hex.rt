@@ -2,6 +2,7 @@
 ghost use Rattle.std.specs.Prelude.{◌≤◌, length};
 
 use crate::cut::behind;
+use std::io;
 use text::reading::bytes;
 use text::words::place_of;
 
@@ -25,19 +26,20 @@ pub fn read_word(line: &[u8], from: usize, out: &mut [u8]) -> Field
     }
 }
 
-fn put_byte(x: u8) {
-    io::print_hex(libc::STDOUT_FILENO, x as u64, 2);
+fn put_byte(rt: &impl Print, x: u8) -> io::Result<()> {
+    print!(rt; "{x:02x}")
 }
 
-pub fn put(bytes: &[u8]) {
+pub fn put(rt: &impl Print, bytes: &[u8]) -> io::Result<()> {
     let mut i: usize = 0;
     while i < bytes.len() {
-        put_byte(bytes[i]);
+        put_byte(rt, bytes[i])?;
         i += 1;
     }
+    Ok(())
 }
 
-pub fn put_line(bytes: &[u8]) {
-    put(bytes);
-    io::write_all(libc::STDOUT_FILENO, b"\n");
+pub fn put_line(rt: &impl Print, bytes: &[u8]) -> io::Result<()> {
+    put(rt, bytes)?;
+    rt.write_all(b"\n")
 }

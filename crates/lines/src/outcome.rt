@@ -1,27 +1,26 @@
 // What a call came to, as the end of a line of output.
-use libc::STDOUT_FILENO;
+use std::io;
 
 // A word and a number, as "length 46"; or "refused 8" with document 01's number.
-fn put(refused: u32, word: &[u8], number: u64) {
+fn put(rt: &impl Print, refused: u32, word: &[u8], number: u64) -> io::Result<()> {
     if refused == 0 {
-        io::write_all(STDOUT_FILENO, word);
-        io::print_decimal(STDOUT_FILENO, number);
+        rt.write_all(word)?;
+        print!(rt; "{number}")
     } else {
-        io::write_all(STDOUT_FILENO, b"refused ");
-        io::print_decimal(STDOUT_FILENO, refused as u64);
+        print!(rt; "refused {refused}")
     }
 }
 
-pub fn one(refused: u32, word: &[u8], number: u64) {
-    put(refused, word, number);
-    io::write_all(STDOUT_FILENO, b"\n");
+pub fn one(rt: &impl Print, refused: u32, word: &[u8], number: u64) -> io::Result<()> {
+    put(rt, refused, word, number)?;
+    rt.write_all(b"\n")
 }
 
 // "given back, length 13, payload 1".
-pub fn given_back(refused: u32, length: usize, payload: u8) {
-    put(refused, b"given back, length ", length as u64);
+pub fn given_back(rt: &impl Print, refused: u32, length: usize, payload: u8) -> io::Result<()> {
+    put(rt, refused, b"given back, length ", length as u64)?;
     if refused == 0 {
-        put(refused, b", payload ", payload as u64);
+        put(rt, refused, b", payload ", payload as u64)?;
     }
-    io::write_all(STDOUT_FILENO, b"\n");
+    rt.write_all(b"\n")
 }

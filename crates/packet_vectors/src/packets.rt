@@ -1,11 +1,13 @@
 // Packets protected and given back by the public calls.
+ghost use Rattle.std.specs.Prelude.{◌≡◌, length};
+
 use adding::add::add;
-use libc::STDOUT_FILENO;
 use lines::hex::put_line;
 use making::make::make;
 use session::layout::SIZE;
 use srtp::protect::protect;
 use srtp::unprotect::unprotect;
+use std::io;
 use suites::suite::{Suite, suite_number, tag_length};
 
 // A session with the ids 1, 3 and 4 and the stream cafebabe.
@@ -16,27 +18,39 @@ fn begin(session: &mut [u64], key: &[u8], salt: &[u8], policy: u64, suite: u32, 
 }
 
 // The first bytes of a buffer; nothing after a refusal.
-fn put_packet(what: &[u8], buf: &[u8], length: usize) {
-    io::write_all(STDOUT_FILENO, what);
+fn put_packet(rt: &impl Print, what: &[u8], buf: &[u8], length: usize) -> io::Result<()> {
+    rt.write_all(what)?;
     if length <= buf.len() {
-        put_line(&buf[0..length]);
+        put_line(rt, &buf[0..length])?;
     }
+    Ok(())
 }
 
-// The packet in the buffer, whose last bytes are room for the suite's tag, as it is sent; and then the way back.
-pub fn both_ways(name: &[u8], policy: u64, suite: Suite, key: &[u8], salt: &[u8], buf: &mut [u8]) {
+// The packet in the buffer, whose last bytes are room for the suite's tag, as it is sent; and then the way back. An error of printing leaves the buffer
+// with the packet as it was last told of.
+pub fn both_ways(
+    rt: &impl Print,
+    name: &[u8],
+    policy: u64,
+    suite: Suite,
+    key: &[u8],
+    salt: &[u8],
+    buf: &mut [u8],
+) -> io::Result<()>
+    ensures { length buf.new ≡ length buf.old }
+{
     let t = tag_length(suite);
     let number = suite_number(suite) as u32;
     if buf.len() < t {
-        return;
+        return Ok(());
     }
     let n = buf.len() - t;
     let mut session = [0u64; SIZE];
     begin(&mut session, key, salt, policy, number, 0);
     let sent = protect(&mut session, buf, n);
-    put_packet(b"wire ", buf, sent.length);
+    put_packet(rt, b"wire ", buf, sent.length)?;
     begin(&mut session, key, salt, policy, number, 1);
     let got = unprotect(&mut session, buf, sent.length);
-    io::write_all(STDOUT_FILENO, name);
-    put_packet(b" back ", buf, got.length);
+    rt.write_all(name)?;
+    put_packet(rt, b" back ", buf, got.length)
 }

@@ -1,13 +1,12 @@
 -- The track of record i as it is lent, judged and come back: the record's replay state.
 use mathlib.Core.Path.{◌≡◌, refl, sym, ap, ap₂, ◌∙◌}
-use mathlib.Core.List.{List, [], ◌∷◌, ◌++◌}
+use mathlib.Core.List.{List, [], ◌++◌}
 use Prim.Native.Nat.{ℕ, ◌+◌, ◌-◌, ◌%◌, ◌^◌, ◌<◌}
 use native.Mathlib.Omega.{arith}
 use lib.ListN.{length, get_or, take, drop}
 use Rattle.memory.specs.Parts.{part_at, with_part, place_in, cut}
 use Rattle.memory.specs.Words.{word}
 use Rattle.memory.proofs.Parts.{lent, came-back}
-use Rattle.replay.specs.declared.answer.Judged.{Judged}
 use Rattle.replay.specs.declared.answer.Judged.TheVariants.{Index}
 use Rattle.replay.specs.Receive.{receive_of}
 use Rattle.replay.specs.Send.{send_of, sent_of}
@@ -15,7 +14,6 @@ use Rattle.replay.specs.State.{ReplayState, accept_of}
 use Rattle.replay.specs.Track.{blocks_in, state_in, state_words}
 use Rattle.replay.specs.Window.{blocks, width}
 use Rattle.replay.proofs.Tracks.{blocks-are, accept-blocks, sent-blocks, state-length}
-use Rattle.policies.specs.declared.policy.Way.{Way}
 use Rattle.policies.specs.declared.policy.Way.TheVariants.{Sending, Receiving}
 use Rattle.session.specs.Calls.{with_replay_at}
 use Rattle.session.specs.Memory.{record_layout, the_rollover, the_replay, record_at, size, record_place}

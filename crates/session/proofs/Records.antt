@@ -1,8 +1,7 @@
 -- The records of a session in memory, by the laws of parts: a field read, a field stored, a record stored, a record written and read back.
 use mathlib.Core.Path.{◌≡◌, refl, sym, ap, ◌∙◌}
-use mathlib.Core.Bool.{Bool}
-use mathlib.Core.List.{List, [], ◌∷◌, ◌++◌, map}
-use Prim.Native.Nat.{ℕ, ◌+◌, ◌-◌, ◌*◌, ◌/◌, ◌%◌, ◌^◌, ◌≤◌, ◌<◌}
+use mathlib.Core.List.{List, [], map}
+use Prim.Native.Nat.{ℕ, ◌+◌, ◌*◌, ◌<◌}
 use native.Mathlib.Nat.{mod-eq_of_lt}
 use native.Mathlib.Omega.{arith}
 use lib.ListN.{length, get_or, set, take, drop, length-drop}
@@ -10,9 +9,9 @@ use lib.Pow.{high, low}
 use lib.Seq.{length-take-le, drop-drop}
 use Rattle.memory.specs.Parts.{part_at, with_part, cells_of, place_in, cut}
 use Rattle.memory.specs.Words.{word}
-use Rattle.memory.proofs.Parts.{take-with, drop-with, part_of, cells-length, cell-at, cell-stored, field_stored, cut-join, join-length, field_put, field-read, field-inside, part-word}
+use Rattle.memory.proofs.Parts.{drop-with, part_of, cells-length, cell-at, cell-stored, field_stored, cut-join, join-length, field_put, field-read, field-inside, part-word}
 use Rattle.replay.specs.State.{ReplayState}
-use Rattle.replay.specs.Track.{Blocks, state_in, state_words}
+use Rattle.replay.specs.Track.{Blocks, state_words}
 use Rattle.replay.specs.Window.{blocks}
 use Rattle.replay.proofs.Tracks.{blocks-in, state-length, state-kept}
 use Rattle.session.specs.Session.{Kind, Free, Sender, Receiver, Record}

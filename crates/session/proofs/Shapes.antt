@@ -7,7 +7,6 @@ use native.Mathlib.Omega.{arith}
 use lib.ListN.{length, get_or, take, replicate}
 use Rattle.bits.specs.Pick.{pick}
 use Rattle.memory.specs.Words.{word}
-use Rattle.bits.specs.declared.refusal.Refusal.TheVariants as refusal
 use Rattle.rtp_header.specs.Header.{seq_of}
 use Rattle.replay.specs.Track.{Blocks}
 use Rattle.replay.specs.Window.{blocks, width}

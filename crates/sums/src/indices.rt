@@ -3,24 +3,25 @@ use lines::outcome;
 use replay::answer::{Judged, tell};
 use replay::receive::{accept, receive};
 use replay::send;
+use std::io;
 
-fn put(judged: Judged) {
+fn put(rt: &impl Print, judged: Judged) -> io::Result<()> {
     let told = tell(judged);
-    outcome::one(told.number as u32, b"index ", told.index);
+    outcome::one(rt, told.number as u32, b"index ", told.index)
 }
 
 // SEQ received where this is the highest accepted index, and the only one accepted. 64 indices are remembered.
-pub fn received(highest: u64, sequence: u64) {
+pub fn received(rt: &impl Print, highest: u64, sequence: u64) -> io::Result<()> {
     let mut track = [0u64; 6];
     accept(&mut track, highest);
     let arrival = receive(&track, 64, 0, (sequence % 65536) as u16);
     let judged = arrival.judged;
-    put(judged);
+    put(rt, judged)
 }
 
 // SEQ sent where this is the last index sent.
-pub fn sent(last: u64, sequence: u64) {
+pub fn sent(rt: &impl Print, last: u64, sequence: u64) -> io::Result<()> {
     let mut track = [0u64; 2];
     send::sent(&mut track, last);
-    put(send::send(&track, 0, (sequence % 65536) as u16));
+    put(rt, send::send(&track, 0, (sequence % 65536) as u16))
 }

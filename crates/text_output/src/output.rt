@@ -1,5 +1,8 @@
 // A line of output, put together in a buffer: each function writes at a place and gives back the place after it.
-use libc::STDOUT_FILENO;
+ghost use Rattle.std.specs.Prelude.{◌≡◌, length};
+
+use itoa::Buffer;
+use std::io;
 
 // What does not fit is left out; no line is longer than its buffer.
 pub fn put(out: &mut [u8], at: usize, b: u8) -> usize {
@@ -21,9 +24,8 @@ pub fn put_text(out: &mut [u8], at: usize, text: &[u8]) -> usize {
 }
 
 pub fn put_decimal(out: &mut [u8], at: usize, n: u64) -> usize {
-    let mut digits = [0u8; 20];
-    let k = io::decimal(n, &mut digits);
-    put_text(out, at, &digits[..k])
+    let mut digits = Buffer::new();
+    put_text(out, at, digits.format(n).as_bytes())
 }
 
 fn digit(n: u8) -> u8 {
@@ -82,11 +84,14 @@ fn put_unreadable(out: &mut [u8], at: usize) -> usize {
     at
 }
 
-// The line that was put together, with its line feed.
-pub fn write_line(out: &mut [u8], at: usize) {
+// The line that was put together, with its line feed. After an error some of it may have been written; the buffer is as after a line that was.
+pub fn write_line(rt: &impl Print, out: &mut [u8], at: usize) -> io::Result<()>
+    ensures { length out.new ≡ length out.old }
+{
     let readable = put_unreadable(out, at);
     let end = put(out, readable, 10);
     if end <= out.len() {
-        io::write_all(STDOUT_FILENO, &out[0..end]);
+        rt.write_all(&out[0..end])?;
     }
+    Ok(())
 }

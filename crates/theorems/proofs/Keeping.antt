@@ -11,7 +11,6 @@ use Rattle.bits.proofs.Bits.{packed-ext}
 use Rattle.bits.proofs.Lists.{tabulate-ext}
 use Rattle.bits.specs.Bits.{packed}
 use Rattle.bits.specs.Pick.{pick}
-use Rattle.bits.specs.declared.refusal.Refusal.TheVariants as refusal
 use Rattle.rtp_header.specs.Header.{ssrc_of}
 use Rattle.replay.specs.State.{ReplayState}
 use Rattle.policies.specs.declared.policy.Way.{Way}

@@ -225,7 +225,7 @@ ledger_numbers l held (a ∷ rest) =
 numbered : (policy : Policy) (l : List Sent) (held : List ℕ) (rest : List Arrival) → AsTheLedger policy l held rest
     → map (λ (a : Arrival). a.answer.number) rest ≡ ledger_numbers l held rest
 numbered policy l held [] e = refl
-numbered policy l held (a ∷ rest) (e, f, g) = ap₂ (λ (n : ℕ) (ns : List ℕ). n ∷ ns) e (numbered policy l _ rest g)
+numbered policy l held (a ∷ rest) (e, f, g) = ap₂ (λ (n : ℕ) (ns : List ℕ). n ∷ ns) e (numbered policy l (enter 64 held (get_or l a.packet no_packet).index).held rest g)
 
 followed : (x rollover i j : ℕ) → rollover < 2 ^ 32 → get_or events i no_event ≡ added sender x Sending rollover → get_or events j no_event ≡ added receiver x Receiving rollover
     → (l : List Sent) → l ≡ sent_from x rollover none_sent events → (marks : ℕ → Mark) → Premises x rollover l marks (drop (suc j) events)

@@ -7,7 +7,6 @@ use native.Mathlib.Omega.{arith}
 use borrow.Author.Tests.{eq-eqb, eqb-true}
 use lib.Dec.{eqb}
 use Rattle.bits.specs.Pick.{pick}
-use Rattle.bits.specs.declared.refusal.Refusal.TheVariants as refusal
 use Rattle.bits.proofs.Refusals.{above_zero}
 use Rattle.replay.specs.State.{ReplayState}
 use Rattle.policies.specs.declared.policy.Way.{Way}

@@ -3,7 +3,7 @@ use mathlib.Core.Path.{◌≡◌, refl, sym, ap, ◌∙◌}
 use mathlib.Core.Bool.{Bool, true, false}
 use mathlib.Core.Logic.{◌⊎◌, inl, inr}
 use mathlib.Core.List.{List, ◌++◌}
-use Prim.Native.Nat.{ℕ, ◌-◌, ◌≤◌, ◌<◌}
+use Prim.Native.Nat.{ℕ, ◌-◌, ◌<◌}
 use native.Mathlib.Omega.{arith}
 use borrow.Author.Tests.{le-ltb, eqb-true, ne_eqb}
 use lib.Dec.{eqb, ltb}
@@ -35,7 +35,7 @@ use Rattle.wire.proofs.Restoring.{restored-plain, tagged-plain, restored-length,
 use Rattle.session.specs.Session.{Record, Setup, Session}
 use Rattle.session.specs.Records.{Found, none, some, record_for}
 use Rattle.session.specs.Packets.{listed_by, Effect, refuse, give, unprotect_at, unprotect_in, unprotect_read, settled, unprotect_of}
-use Rattle.session.proofs.Ways.{effect_by, effect_is, done_by, outcome-is}
+use Rattle.session.proofs.Ways.{effect_is, done_by, outcome-is}
 use Rattle.theorems.proofs.Settling.{answer-settled}
 use Rattle.theorems.specs.Required.{CameEncrypted, HadNeither, plain_of, Alike, RequiredMeansRequired}
 

@@ -11,7 +11,6 @@ use lib.ListN.{length, get_or, take, drop, length-take, get_or-eq_default}
 use lib.Seq.{take_at, get_or-take, length-take-le}
 use Rattle.bits.specs.Pick.{pick}
 use Rattle.bits.specs.Refusals.{number_of}
-use Rattle.bits.specs.declared.refusal.Refusal.TheVariants as refusal
 use Rattle.bits.proofs.Refusals.{above_zero}
 use Rattle.bits.specs.Lists.{Each}
 use Rattle.rtp_header.specs.Header.{header_number, layout_of, seq_of, ssrc_of}

@@ -1,8 +1,7 @@
 -- What is sent ends with the tag that its suite gives.
-use mathlib.Core.Path.{◌≡◌, refl, ◌∙◌}
+use mathlib.Core.Path.{refl, ◌∙◌}
 use mathlib.Core.List.{List, [], ◌∷◌}
 use Prim.Native.Nat.{ℕ}
-use lib.ListN.{take}
 use Rattle.bits.specs.Lists.{Each}
 use Rattle.aes_cm.proofs.Derived.{derived-front}
 use Rattle.rtp_elements.specs.Mask.{listed_in}
