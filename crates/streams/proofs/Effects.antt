@@ -1,10 +1,10 @@
 -- A packet of a stream whose record is known: its effect, by what was judged of it, and one law for each way that a core ends.
 use mathlib.Core.Path.{◌≡◌, refl, sym, ap, ◌∙◌}
 use mathlib.Core.Bool.{Bool, true, false}
-use mathlib.Core.List.{List, ◌++◌}
+use mathlib.Core.List.{List}
 use Prim.Native.Nat.{ℕ, ◌+◌, ◌-◌}
 use native.Mathlib.Omega.{arith}
-use lib.ListN.{length, take, drop}
+use lib.ListN.{take}
 use Rattle.bits.specs.Pick.{pick}
 use Rattle.bits.specs.Refusals.{number_of}
 use Rattle.bits.specs.declared.refusal.Refusal.{Refusal}
@@ -14,7 +14,6 @@ use Rattle.rtp_header.specs.declared.header.Header.TheVariants.{Read}
 use Rattle.rtp_header.specs.declared.header.Layout.{Layout}
 use Rattle.rtp_header.specs.Header.{seq_of, ssrc_of}
 use Rattle.rtp_elements.specs.Mask.{listed_in}
-use Rattle.replay.specs.declared.answer.Judged.{Judged}
 use Rattle.replay.specs.declared.answer.Judged.TheVariants.{Index, Refused as NoIndex}
 use Rattle.replay.specs.Window.{blocks, width}
 use Rattle.replay.proofs.Tracks.{received-state, sent-state}
@@ -22,13 +21,13 @@ use Rattle.policies.specs.declared.policy.Policy.{Policy}
 use Rattle.policies.specs.declared.policy.Way.{Way}
 use Rattle.policies.specs.declared.policy.Way.TheVariants.{Sending, Receiving}
 use Rattle.policies.specs.Judging.{added_of, judged_of}
-use Rattle.wire.specs.Wire.{wire_of, restore_of, tag_fits}
+use Rattle.wire.specs.Wire.{tag_fits}
 use Rattle.wire.proofs.Tagging.{judged-layout}
 use Rattle.session.specs.Calls.{Gives}
 use Rattle.suites.specs.declared.suite.Suite.{Suite}
 use Rattle.suites.specs.Suites.{tag_length_of}
 use Rattle.session.specs.Memory.{suite_at, policy_at, setup_at}
-use Rattle.session.specs.Packets.{wire_length, Effect, refuse, give}
+use Rattle.session.specs.Packets.{wire_length, refuse, give}
 use Rattle.records.specs.Tracks.{record_in, judged_by, committed_by}
 use Rattle.session.specs.Calls.{with_replay_at}
 use Rattle.streams.specs.Steps.{effect_at, left_by, sent_as, received_as}
