@@ -11,8 +11,8 @@ fail() {
 need_library() {
     if [ ! -f "$library" ]; then
         command -v rt >/dev/null 2>&1 || fail "$library is absent, and so is the command 'rt' that proves and builds it"
-        echo "proving and building the library: rt staticlib delugash" >&2
-        rt staticlib delugash >&2 || fail "rt staticlib delugash failed"
+        echo "proving and building the library: tests/library" >&2
+        tests/library >&2 || fail "tests/library failed"
     fi
     [ -f include/delugash.h ] || fail "include/delugash.h is missing"
 }

@@ -1,4 +1,4 @@
-/* Delugash: SRTP that is proved right. Link with libdelugash.a (`rt staticlib delugash`).
+/* Delugash: SRTP that is proved right. Link with libdelugash.a (`tests/library`).
  *
  * Plain SRTP (RFC 3711), Cryptex (RFC 9335) and encrypted header extension elements under a mask (RFC 6904). Suites AES_CM_128_HMAC_SHA1_80 and, but
  * for the mask, AEAD_AES_128_GCM (RFC 7714); key derivation rate 0, no MKI; no RTCP.

@@ -1,4 +1,4 @@
-//! Tells the linker where `libdelugash.a` is: in the folder that DELUGASH_LIB_DIR names, or where `rt staticlib delugash` writes it.
+//! Tells the linker where `libdelugash.a` is: in the folder that DELUGASH_LIB_DIR names, or where `tests/library` writes it.
 
 use std::env;
 use std::path::PathBuf;
@@ -11,7 +11,7 @@ fn main() {
     let library = folder.join("libdelugash.a");
     if !library.exists() {
         println!(
-            "cargo:warning=no libdelugash.a in {}: run `rt staticlib delugash`, or set DELUGASH_LIB_DIR",
+            "cargo:warning=no libdelugash.a in {}: run `tests/library`, or set DELUGASH_LIB_DIR",
             folder.display()
         );
     }

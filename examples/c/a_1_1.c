@@ -1,6 +1,6 @@
 /* RFC 9335, A.1.1: a packet under Cryptex, protected and unprotected through the library, and what each call changed.
  *
- *     rt staticlib delugash
+ *     tests/library
  *     gcc -Wall -Wextra -Werror -Iinclude examples/c/a_1_1.c target/staticlib/libdelugash.a -o a_1_1 && ./a_1_1
  */
 #include "delugash.h"
