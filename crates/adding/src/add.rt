@@ -40,7 +40,8 @@ pub fn add(session: &mut [u64], ssrc: u32, way: u32, rollover: u32) -> u32
     if session.len() != SIZE {
         return MEMORY;
     }
-    if 1 < way {
+    let unknown = 1 < way;
+    if unknown {
         return WAY;
     }
     if !is_made(session[0]) {

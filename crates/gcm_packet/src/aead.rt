@@ -73,7 +73,8 @@ pub fn open_gcm(
     let nonce = packet_iv(keys, ssrc, index);
     let m = n - 16;
     let made = tag(key, hash, nonce, &buf[0..m], r.first, r.stop, r.rest);
-    if !same(&made, &buf[m..n]) {
+    let differs = !same(&made, &buf[m..n]);
+    if differs {
         return false;
     }
     crypt(key, nonce, &mut buf[0..m], r.first, r.stop, r.rest);

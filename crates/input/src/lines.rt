@@ -7,7 +7,7 @@ use text::words::place_of;
 use text_output::output::put_text;
 
 // How long the line is that was read, and whether the input ended with it. `from` and `filled` say which part of the chunk is still to be cut.
-#[derive(Drop)]
+#[derive(Clone, Copy)]
 pub struct LineRead {
     pub used: usize,
     pub ended: bool,

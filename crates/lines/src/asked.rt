@@ -8,7 +8,7 @@ use std::io;
 use text::words::place_of;
 
 // The last two numbers of the name, where it ends, and where the data begin.
-#[derive(Drop)]
+#[derive(Clone, Copy)]
 pub struct Asked {
     pub before: u64,
     pub last: u64,
@@ -44,7 +44,7 @@ pub fn ask(rt: &impl Print, line: &[u8], behind: &[u8]) -> io::Result<Asked>
 }
 
 // What a line asks for: the first letter of its data, the last number and the end of its name, and how many bytes its three words of hex have.
-#[derive(Drop)]
+#[derive(Clone, Copy)]
 pub struct Parts {
     pub kind: u8,
     pub number: u64,

@@ -7,7 +7,7 @@ use text::reading::bytes;
 use text::words::place_of;
 
 // How many bytes a word has, and where the next word begins.
-#[derive(Drop)]
+#[derive(Clone, Copy)]
 pub struct Field {
     pub length: usize,
     pub next: usize,

@@ -1,7 +1,7 @@
 // Numbers in a line, whatever stands between them.
 
 // `inside` says that the last byte was a digit, so that a further one continues `last`.
-#[derive(Drop)]
+#[derive(Clone, Copy)]
 pub struct LastTwo {
     pub before: u64,
     pub last: u64,

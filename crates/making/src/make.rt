@@ -48,7 +48,8 @@ pub fn make(
     if session.len() != SIZE {
         return MEMORY;
     }
-    if 1 < suite {
+    let unknown = 1 < suite;
+    if unknown {
         return SUITE;
     }
     clear(session);

@@ -69,7 +69,8 @@ fn close(end: &mut [u8], left: &[u8], tail: &[u8], bits: u64) -> usize
     put(end, 0, left);
     put(end, left.len(), tail);
     end[m] = 0x80;
-    let n = if m < 56 { 1 } else { 2 };
+    let fits = m < 56;
+    let n = if fits { 1 } else { 2 };
     let number = write64(bits);
     put(end, 64 * n - 8, &number);
     n

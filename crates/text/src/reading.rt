@@ -4,7 +4,7 @@ ghost use Rattle.std.specs.Prelude.{◌≡◌, ◌*◌, ◌≤◌, length};
 use crate::words::word;
 
 // A number of up to 64 bits.
-#[derive(Drop)]
+#[derive(Clone, Copy)]
 pub struct NumberRead {
     pub ok: bool,
     pub value: u64,
@@ -98,7 +98,7 @@ pub fn hex_at(line: &[u8], k: usize, digits: usize) -> NumberRead {
 }
 
 // How many bytes were read.
-#[derive(Drop)]
+#[derive(Clone, Copy)]
 pub struct HexRead {
     pub ok: bool,
     pub length: usize,

@@ -20,17 +20,17 @@ returns-then-session-ne-SIZE c =
     let a = c.args in
     add-memory w a.ssrc a.way a.rollover c.if-session-ne-SIZE.true
 
-pub returns-then-way-gt1 : goal.returns-then-way-gt1
-returns-then-way-gt1 c =
+pub returns-then-unknown : goal.returns-then-unknown
+returns-then-unknown c =
     let w = c.args.session.now in
     let a = c.args in
-    add-way w a.ssrc a.way a.rollover c.if-session-ne-SIZE.false c.if-way-gt1.true
+    add-way w a.ssrc a.way a.rollover c.if-session-ne-SIZE.false c.if-unknown.true
 
 pub returns-then-not-is_made : goal.returns-then-not-is_made
 returns-then-not-is_made c =
     let w = c.args.session.now in
     let a = c.args in
-    rw c.code.ensures (add-unmade-in w a.ssrc a.way a.rollover c.if-session-ne-SIZE.false c.if-way-gt1.false (sym c.is_made.ensures ∙ c.if-not-is_made.true))
+    rw c.code.ensures (add-unmade-in w a.ssrc a.way a.rollover c.if-session-ne-SIZE.false c.if-unknown.false (sym c.is_made.ensures ∙ c.if-not-is_made.true))
 
 pub has_ssrc-requires : goal.has_ssrc-requires
 has_ssrc-requires c =
@@ -40,7 +40,7 @@ pub returns-then-has_ssrc : goal.returns-then-has_ssrc
 returns-then-has_ssrc c =
     let w = c.args.session.now in
     let a = c.args in
-    rw c.code-then-has_ssrc.ensures (add-twice-in w a.ssrc a.way a.rollover c.if-session-ne-SIZE.false c.if-way-gt1.false (sym c.is_made.ensures ∙ c.if-not-is_made.false) (sym c.has_ssrc.ensures ∙ c.if-has_ssrc.true))
+    rw c.code-then-has_ssrc.ensures (add-twice-in w a.ssrc a.way a.rollover c.if-session-ne-SIZE.false c.if-unknown.false (sym c.is_made.ensures ∙ c.if-not-is_made.false) (sym c.has_ssrc.ensures ∙ c.if-has_ssrc.true))
 
 pub free_place-requires : goal.free_place-requires
 free_place-requires c =
@@ -50,7 +50,7 @@ pub returns-in_default : goal.returns-in_default
 returns-in_default c =
     let w = c.args.session.now in
     let a = c.args in
-    rw c.code-in_default.ensures (add-full-in w a.ssrc a.way a.rollover c.if-session-ne-SIZE.false c.if-way-gt1.false (sym c.is_made.ensures ∙ c.if-not-is_made.false) (sym c.has_ssrc.ensures ∙ c.if-has_ssrc.false) _ c.free_place.ensures.value c.in_default.is)
+    rw c.code-in_default.ensures (add-full-in w a.ssrc a.way a.rollover c.if-session-ne-SIZE.false c.if-unknown.false (sym c.is_made.ensures ∙ c.if-not-is_made.false) (sym c.has_ssrc.ensures ∙ c.if-has_ssrc.false) _ c.free_place.ensures.value c.in_default.is)
 
 pub overflow_mul-at : goal.overflow_mul-at
 overflow_mul-at c =
@@ -85,5 +85,5 @@ returns c =
     let is : c.copy.new.to ≡ record_words (fresh_record a.ssrc (way_of a.way) a.rollover) =
     c.copy.ensures ∙ c.fresh_record-words.ensures ∙ ap (λ (x : Way). record_words (fresh_record a.ssrc x a.rollover)) c.way_of.ensures in
     let l : length c.copy.new.to ≡ each = ap length is ∙ fresh-long a.ssrc (way_of a.way) a.rollover in
-    add-placed-in w a.ssrc a.way a.rollover c.if-session-ne-SIZE.false c.if-way-gt1.false (sym c.is_made.ensures ∙ c.if-not-is_made.false) (sym c.has_ssrc.ensures ∙ c.if-has_ssrc.false) _ c.free_place.ensures.value i c.in-At.is _
+    add-placed-in w a.ssrc a.way a.rollover c.if-session-ne-SIZE.false c.if-unknown.false (sym c.is_made.ensures ∙ c.if-not-is_made.false) (sym c.has_ssrc.ensures ∙ c.if-has_ssrc.false) _ c.free_place.ensures.value i c.in-At.is _
     (came-back (record_place i) (record_place i + each) w c.copy.new.to (omega arith) ∙ ap (λ (p : List ℕ). with_part (record_place i) p w) is)

@@ -23,8 +23,8 @@ tag-made-requires c =
     let o = portion-order c.is_cryptex.result c.args.h _ (sound-read _ _ (read c.args.policy 16 c.args.buf.now c.args.n c.args.h c.requires.1.0 c.requires.1.1)) (fits c.args.policy 16 c.args.buf.now c.args.n c.args.h c.requires.1.0 c.requires.1.1) in
     rw (c.encrypted_portion-r.ensures, z) (o.0, (o.1.0, (o.1.1, omega (arith, small c.args.policy 16 c.args.buf.now c.args.n c.args.h c.requires.1.0 c.requires.1.1))))
 
-pub returns-then-not-same : goal.returns-then-not-same
-returns-then-not-same c =
+pub returns-then-differs : goal.returns-then-differs
+returns-then-differs c =
     let a = c.args in
     let z : a.n - 16 - 0 ≡ a.n - 16 = omega arith in
     let body = take (a.n - 16 - 0) (drop 0 a.buf.now) in
@@ -34,7 +34,7 @@ returns-then-not-same c =
     let tested : same_of c.tag-made.result (take (a.n - (a.n - 16)) (drop (a.n - 16) a.buf.now)) ≡ tag_fits Gcm a.keys a.policy a.ssrc a.index (take a.n a.buf.now)
     = tag-fits a.policy 16 a.buf.now a.n a.h c.requires.1.0 c.requires.1.1 Gcm refl a.keys a.ssrc a.index _
     (tag-gcm a.keys a.policy a.ssrc a.index body o (portion-is a.keys a.policy a.ssrc a.index body a.h (rw z d) _ c.is_cryptex.ensures o c.encrypted_portion-r.ensures) _ _ c.packet_iv-nonce.ensures c.tag-made.ensures) in
-    record { value = sym c.if-not-same.true ∙ c.same.ensures ∙ tested; by_index = λ listed. refl }
+    record { value = sym c.if-differs.true ∙ c.same-differs.ensures ∙ tested; by_index = λ listed. refl }
 
 pub crypt-requires : goal.crypt-requires
 crypt-requires c =
@@ -54,7 +54,7 @@ returns c =
     = tag-fits a.policy 16 a.buf.now a.n a.h c.requires.1.0 c.requires.1.1 Gcm refl a.keys a.ssrc a.index _
     (tag-gcm a.keys a.policy a.ssrc a.index body o (portion-is a.keys a.policy a.ssrc a.index body a.h (rw z d) _ c.is_cryptex.ensures o c.encrypted_portion-r.ensures) _ _ c.packet_iv-nonce.ensures c.tag-made.ensures) in
     record {
-      value = sym c.if-not-same.false ∙ c.same.ensures ∙ tested;
+      value = sym c.if-differs.false ∙ c.same-differs.ensures ∙ tested;
       by_index = λ listed.
           opened a.policy 16 a.buf.now a.n a.h c.requires.1.0 c.requires.1.1 Gcm refl a.keys listed a.ssrc a.index _
           (gcm-pass a.keys a.policy a.ssrc a.index body a.h (rw z d) _ c.is_cryptex.ensures o c.encrypted_portion-r.ensures listed _
