@@ -1,4 +1,5 @@
 -- One law for each way that add on session memory ends, from the laws of the definition.
+use Rattle.std.specs.Prelude.{Option, Some, None}
 use mathlib.Core.Path.{◌≡◌, refl, sym, ap, ◌∙◌}
 use mathlib.Core.Bool.{Bool, true, false}
 use mathlib.Core.List.{List, append-nil}
@@ -16,8 +17,6 @@ use Rattle.memory.specs.Words.{word}
 use Rattle.policies.specs.declared.policy.Way.{Way}
 use Rattle.replay.specs.Window.{blocks}
 use Rattle.replay.proofs.Tracks.{fresh-words}
-use Rattle.session.specs.declared.place.Place.{Place}
-use Rattle.session.specs.declared.place.Place.TheVariants.{At, Nowhere}
 use Rattle.session.specs.Session.{Made, Session}
 use Rattle.session.specs.Adding.{not_added, add_of}
 use Rattle.session.specs.Calls.{way_of, Leaves, with_record_at, placed_at, added_in, add_call}
@@ -75,14 +74,14 @@ module _ (words : List ℕ) (ssrc way rollover : ℕ) where
         pub add-twice-in : has_ssrc (decode words).records ssrc ≡ true → Leaves (add_call words ssrc way rollover) (number_of refusal.Twice) words
         add-twice-in t = refused refusal.Twice (add_twice (decode words) ssrc (way_of way) rollover is_made t)
 
-        module _ (once : has_ssrc (decode words).records ssrc ≡ false) (p : Place) (is_place : p ≡ free_from 0 (decode words).records) where
-          pub add-full-in : p ≡ Nowhere → Leaves (add_call words ssrc way rollover) (number_of refusal.Full) words
+        module _ (once : has_ssrc (decode words).records ssrc ≡ false) (p : Option ℕ) (is_place : p ≡ free_from 0 (decode words).records) where
+          pub add-full-in : p ≡ None → Leaves (add_call words ssrc way rollover) (number_of refusal.Full) words
           add-full-in e = refused refusal.Full (add-full (decode words) ssrc (way_of way) rollover is_made once (full (decode words).records (nowhere free 0 (decode words).records (sym is_place ∙ e)).found))
 
-          pub add-placed-in : (i : ℕ) → p ≡ At i → (memory : List ℕ) → memory ≡ with_record_at words i (fresh_record ssrc (way_of way) rollover)
+          pub add-placed-in : (i : ℕ) → p ≡ Some i → (memory : List ℕ) → memory ≡ with_record_at words i (fresh_record ssrc (way_of way) rollover)
               → Leaves (add_call words ssrc way rollover) 0 memory
           add-placed-in i e memory is =
-              let f : free_from 0 (decode words).records ≡ At i = sym is_place ∙ e in
+              let f : free_from 0 (decode words).records ≡ Some i = sym is_place ∙ e in
               let n : added.number ≡ 0 =
               ap (λ (m : Made). m.number) (add-placed (decode words) ssrc (way_of way) rollover is_made once i (first-here free (decode words).records i f)) in
               on-memory (record { number = sym n; words = is ∙ sym (rw (n, f)) })

@@ -11,7 +11,6 @@ use records::places::{free_place, has_ssrc, head_word};
 use session::answer::code;
 use session::layout::{EACH, FRONT, ROLLOVER, SIZE};
 use session::load::is_made;
-use session::place::Place;
 
 // 0 sends, and any other way receives; only 0 and 1 get this far.
 fn way_of(way: u32) -> Way
@@ -50,7 +49,7 @@ pub fn add(session: &mut [u64], ssrc: u32, way: u32, rollover: u32) -> u32
     if has_ssrc(session, ssrc) {
         return code(Refusal::Twice);
     }
-    let Place::At(i) = free_place(session) else {
+    let Some(i) = free_place(session) else {
         return code(Refusal::Full);
     };
     let words = fresh_record(ssrc, way_of(way), rollover);

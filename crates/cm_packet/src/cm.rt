@@ -3,7 +3,6 @@ ghost use Rattle.std.specs.Prelude.{◌≡◌, ◌++◌, ◌/◌, ◌^◌, ◌�
 ghost use Rattle.bits.specs.BigEndian.{to_bytes};
 ghost use Rattle.bits.specs.Pick.{pick};
 ghost use Rattle.hmac.specs.Steps.{mac_of};
-ghost use Rattle.rtp_header.specs.declared.header.Header.TheVariants.{Read};
 ghost use Rattle.rtp_elements.specs.Mask.{listed_in};
 ghost use Rattle.suites.specs.declared.suite.Suite.TheVariants.{CmHmac};
 ghost use Rattle.suites.specs.Suites.{tag_length_of};
@@ -62,7 +61,7 @@ pub fn open_cm(
     n: usize,
     h: Layout,
 ) -> bool
-    requires { (index < 2 ^ 48) × ((n ≤ length buf.old) × (judged_of Way.Receiving policy (tag_length_of CmHmac) (take n buf.old) ≡ Read h)) }
+    requires { (index < 2 ^ 48) × ((n ≤ length buf.old) × (judged_of Way.Receiving policy (tag_length_of CmHmac) (take n buf.old) ≡ Ok h)) }
     ensures value { result ≡ tag_fits CmHmac keys policy ssrc index (take n buf.old) }
     ensures buf_after { buf.new ≡ pick result (opened_of CmHmac keys policy (listed_in ids.now) ssrc index n buf.old) buf.old }
 {

@@ -1,4 +1,5 @@
 -- One law for each way that the front of a packet call ends.
+use Rattle.std.specs.Prelude.{Option, Some, None, Result, Ok, Err}
 use mathlib.Core.Path.{◌≡◌, refl, sym, ap, ap₂, ◌∙◌}
 use mathlib.Core.List.{List}
 use Prim.Native.Nat.{ℕ, ◌+◌, ◌-◌, ◌≤◌, ◌<◌}
@@ -9,18 +10,12 @@ use lib.Seq.{length-take-le}
 use Rattle.bits.specs.declared.refusal.Refusal.{Refusal}
 use Rattle.bits.specs.declared.refusal.Refusal.TheVariants as refusal
 use Rattle.memory.specs.Words.{word}
-use Rattle.rtp_header.specs.declared.header.Header.{Header}
-use Rattle.rtp_header.specs.declared.header.Header.TheVariants.{Read, Refused}
 use Rattle.rtp_header.specs.declared.header.Layout.{Layout}
 use Rattle.rtp_header.specs.Header.{seq_of, ssrc_of}
-use Rattle.replay.specs.declared.answer.Judged.{Judged}
-use Rattle.replay.specs.declared.answer.Judged.TheVariants.{Index, Refused as NoIndex}
 use Rattle.policies.specs.declared.policy.Policy.{Policy}
 use Rattle.policies.specs.declared.policy.Way.{Way}
 use Rattle.policies.specs.Judging.{tail_of, added_of, judged_of}
 use Rattle.wire.proofs.Tagging.{judged-passed}
-use Rattle.session.specs.declared.place.Place.{Place}
-use Rattle.session.specs.declared.place.Place.TheVariants.{At, Nowhere}
 use Rattle.suites.specs.Suites.{tag_length_of}
 use Rattle.session.specs.Memory.{size, suite_at, policy_at, decode}
 use Rattle.session.specs.Places.{place_from}
@@ -30,7 +25,7 @@ use Rattle.front.specs.declared.open.Opened.{Opened}
 use Rattle.front.specs.Opening.{shut, no_memory, open_index, open_at, stream_of, open_of, PlacedAt, InStream, ReadyAt, OpensAs}
 
 -- a packet that was judged has its fixed header, and one that arrived its tag
-module _ (way : Way) (policy : Policy) (t : ℕ) (buf : List ℕ) (n : ℕ) (h : Layout) (inside : n ≤ length buf) (read : judged_of way policy t (take n buf) ≡ Read h) where
+module _ (way : Way) (policy : Policy) (t : ℕ) (buf : List ℕ) (n : ℕ) (h : Layout) (inside : n ≤ length buf) (read : judged_of way policy t (take n buf) ≡ Ok h) where
   whole : 12 + tail_of way t ≤ length (take n buf)
   whole = (judged-passed way policy t (take n buf) h read).long
 
@@ -51,7 +46,7 @@ module _ (way : Way) (words buf : List ℕ) (n : ℕ) where
     open-length h = rw (eq-eqb (length words) size sized, lt-ltb (length buf) n h)
 
     module _ (inside : n ≤ length buf) (policy : Policy) (is_policy : policy ≡ policy_at (word words 0)) (t : ℕ) (is_t : t ≡ tag_length_of (suite_at (word words 0)))
-        (j : Header) (judged : j ≡ judged_of way policy t (take (n - 0) buf)) where
+        (j : Result Layout Refusal) (judged : j ≡ judged_of way policy t (take (n - 0) buf)) where
       -- the code's slice of the packet
       front_of : take (n - 0) buf ≡ take n buf
       front_of = let z : n - 0 ≡ n = omega arith in rw z
@@ -59,12 +54,12 @@ module _ (way : Way) (words buf : List ℕ) (n : ℕ) where
       judged-so : judged_of way (policy_at (word words 0)) (tag_length_of (suite_at (word words 0))) (take n buf) ≡ j
       judged-so = sym (judged ∙ ap (judged_of way policy t) front_of ∙ ap₂ (λ (p : Policy) (k : ℕ). judged_of way p k (take n buf)) is_policy is_t)
 
-      pub open-unread : (r : Refusal) → j ≡ Refused r → shut r ≡ open_of way words buf n
+      pub open-unread : (r : Refusal) → j ≡ Err r → shut r ≡ open_of way words buf n
       unfolding open_of
       open-unread r e = rw (eq-eqb (length words) size sized, le-ltb (length buf) n inside, judged-so, e)
 
-      module _ (h : Layout) (read : j ≡ Read h) (more : ℕ) (is_more : more ≡ added_of way policy t h) where
-        pub open-judged : judged_of way policy t (take n buf) ≡ Read h
+      module _ (h : Layout) (read : j ≡ Ok h) (more : ℕ) (is_more : more ≡ added_of way policy t h) where
+        pub open-judged : judged_of way policy t (take n buf) ≡ Ok h
         open-judged = ap (judged_of way policy t) (sym front_of) ∙ sym judged ∙ read
 
         more-so : added_of way (policy_at (word words 0)) (tag_length_of (suite_at (word words 0))) h ≡ more
@@ -89,19 +84,19 @@ module _ (way : Way) (words buf : List ℕ) (n : ℕ) where
               stream-so ∙ sym (rw (eq-eqb (length words) size sized, le-ltb (length buf) n inside, judged-so, read, more-so, le-ltb (length buf) (n + more) room))
 
           -- where it is in a stream, it is in that of the layout that was read
-          ready_by : (j : Header) → PlacedAt way words (take n buf) o.place o.index j → (j ≡ o.header) → ReadyAt way words buf n o.place o.index o.header
-          ready_by (Refused r) q e = rw (sym e) tt
-          ready_by (Read l) q e =
+          ready_by : (j : Result Layout Refusal) → PlacedAt way words (take n buf) o.place o.index j → (j ≡ o.header) → ReadyAt way words buf n o.place o.index o.header
+          ready_by (Err r) q e = rw (sym e) tt
+          ready_by (Ok l) q e =
               let same : l ≡ h = same_layout (place_from 0 (decode words).records (ssrc_of (take n buf)) way) l (e ∙ ap (λ (x : Opened). x.header) stream-so) in
-              rw (sym e) (record { readable = record { sized = sized; inside = inside; judged = judged-so ∙ read ∙ ap Read (sym same); room = rw (same, more-so) room }; placed = q })
+              rw (sym e) (record { readable = record { sized = sized; inside = inside; judged = judged-so ∙ read ∙ ap Ok (sym same); room = rw (same, more-so) room }; placed = q })
             where
-              by_index : (i : ℕ) (d : Judged) (l : Layout) → Read l ≡ (open_index way words (take n buf) h i d).header → l ≡ h
-              by_index i (NoIndex r) l e = apart cc
-              by_index i (Index k) l e = cc
+              by_index : (i : ℕ) (d : Result ℕ Refusal) (l : Layout) → Ok l ≡ (open_index way words (take n buf) h i d).header → l ≡ h
+              by_index i (Err r) l e = apart cc
+              by_index i (Ok k) l e = cc
 
-              same_layout : (p : Place) (l : Layout) → Read l ≡ (open_at way words (take n buf) h p).header → l ≡ h
-              same_layout Nowhere l e = apart cc
-              same_layout (At i) l e = by_index i (judged_by way (record_in words i) (seq_of (take n buf))) l e
+              same_layout : (p : Option ℕ) (l : Layout) → Ok l ≡ (open_at way words (take n buf) h p).header → l ≡ h
+              same_layout None l e = apart cc
+              same_layout (Some i) l e = by_index i (judged_by way (record_in words i) (seq_of (take n buf))) l e
 
           pub open-ready : InStream way words (take (n - 0) buf) o → OpensAs way words buf n o
           open-ready q = ready_by o.header (rw front_of at q) refl

@@ -1,20 +1,14 @@
 -- The front of every packet call, in the order of its refusals: the memory's size, LENGTH, SHORT to LARGE, ROOM, STREAM, and those of the index rule.
-use Rattle.std.specs.Prelude.{◌≡◌, List, ℕ, ◌+◌, ◌^◌, ◌≤◌, ◌<◌, eqb, ltb, length, take}
+use Rattle.std.specs.Prelude.{◌≡◌, List, ℕ, ◌+◌, ◌^◌, ◌≤◌, ◌<◌, eqb, ltb, length, take, Option, Some, None, Result, Ok, Err}
 use Rattle.bits.specs.Pick.{pick}
 use Rattle.bits.specs.Refusals.{wrong_memory}
 use Rattle.bits.specs.declared.refusal.Refusal.{Refusal}
 use Rattle.bits.specs.declared.refusal.Refusal.TheVariants as refusal
 use Rattle.memory.specs.Words.{word}
-use Rattle.rtp_header.specs.declared.header.Header.{Header}
-use Rattle.rtp_header.specs.declared.header.Header.TheVariants.{Read, Refused}
 use Rattle.rtp_header.specs.declared.header.Layout.{Layout}
 use Rattle.rtp_header.specs.Header.{header_number, seq_of, ssrc_of}
-use Rattle.replay.specs.declared.answer.Judged.{Judged}
-use Rattle.replay.specs.declared.answer.Judged.TheVariants.{Index, Refused as NoIndex}
 use Rattle.policies.specs.declared.policy.Way.{Way}
 use Rattle.policies.specs.Judging.{added_of, judged_of}
-use Rattle.session.specs.declared.place.Place.{Place}
-use Rattle.session.specs.declared.place.Place.TheVariants.{At, Nowhere}
 use Rattle.suites.specs.Suites.{tag_length_of}
 use Rattle.session.specs.Memory.{size, suite_at, policy_at, decode}
 use Rattle.session.specs.Places.{place_from}
@@ -24,37 +18,37 @@ use Rattle.front.specs.declared.open.Opened.{Opened}
 -- ---- what the front answers
 
 -- the header reader's refusal
-abbrev pub unread : Header → Opened
+abbrev pub unread : Result Layout Refusal → Opened
 unread header = record { number = header_number header; header = header; place = 0; index = 0 }
 
 abbrev pub shut : Refusal → Opened
-shut r = unread (Refused r)
+shut r = unread (Err r)
 
 -- memory of another size holds no stream, and has the border's own number
 abbrev pub no_memory : Opened
-no_memory = record { number = wrong_memory; header = Refused refusal.Stream; place = 0; index = 0 }
+no_memory = record { number = wrong_memory; header = Err refusal.Stream; place = 0; index = 0 }
 
 -- ---- for the packet p, of layout h
 
 module _ (way : Way) (words p : List ℕ) (h : Layout) where
   -- ORDER, WORN, OLD, REPEAT
-  abbrev pub open_index : ℕ → Judged → Opened
-  open_index i (NoIndex r) = shut r
-  open_index i (Index k) = record { number = 0; header = Read h; place = i; index = k }
+  abbrev pub open_index : ℕ → Result ℕ Refusal → Opened
+  open_index i (Err r) = shut r
+  open_index i (Ok k) = record { number = 0; header = Ok h; place = i; index = k }
 
   -- STREAM
-  abbrev pub open_at : Place → Opened
-  open_at Nowhere = shut refusal.Stream
-  open_at (At i) = open_index i (judged_by way (record_in words i) (seq_of p))
+  abbrev pub open_at : Option ℕ → Opened
+  open_at None = shut refusal.Stream
+  open_at (Some i) = open_index i (judged_by way (record_in words i) (seq_of p))
 
   abbrev pub stream_of : Opened
   stream_of = open_at (place_from 0 (decode words).records (ssrc_of p) way)
 
 module _ (way : Way) (words buf : List ℕ) (n : ℕ) where
   -- SHORT to LARGE, then ROOM: a packet that arrives needs none
-  abbrev pub open_read : Header → Opened
-  open_read (Refused r) = shut r
-  open_read (Read h) =
+  abbrev pub open_read : Result Layout Refusal → Opened
+  open_read (Err r) = shut r
+  open_read (Ok h) =
       pick (ltb (length buf) (n + added_of way (policy_at (word words 0)) (tag_length_of (suite_at (word words 0))) h)) (shut refusal.Room) (stream_of way words (take n buf) h)
 
   -- the memory's size, then LENGTH
@@ -69,14 +63,14 @@ module _ (way : Way) (words buf : List ℕ) (n : ℕ) where
 
 -- the packet p has the index k, and its stream's record stands at place i
 pub record Placed (way : Way) (words p : List ℕ) (i k : ℕ) : Type 0 where
-  pub here : place_from 0 (decode words).records (ssrc_of p) way ≡ At i
+  pub here : place_from 0 (decode words).records (ssrc_of p) way ≡ Some i
   pub in32 : i < 32
-  pub index : judged_by way (record_in words i) (seq_of p) ≡ Index k
+  pub index : judged_by way (record_in words i) (seq_of p) ≡ Ok k
   pub small : k < 2 ^ 48
 
-abbrev pub PlacedAt : Way → List ℕ → List ℕ → ℕ → ℕ → Header → Type 0
-PlacedAt way words p i k (Read h) = Placed way words p i k
-PlacedAt way words p i k (Refused r) = Unit {0}
+abbrev pub PlacedAt : Way → List ℕ → List ℕ → ℕ → ℕ → Result Layout Refusal → Type 0
+PlacedAt way words p i k (Ok h) = Placed way words p i k
+PlacedAt way words p i k (Err r) = Unit {0}
 
 abbrev pub InStream : Way → List ℕ → List ℕ → Opened → Type 0
 InStream way words p o = PlacedAt way words p o.place o.index o.header
@@ -85,16 +79,16 @@ InStream way words p o = PlacedAt way words p o.place o.index o.header
 pub record Readable (way : Way) (words buf : List ℕ) (n : ℕ) (h : Layout) : Type 0 where
   pub sized : length words ≡ size
   pub inside : n ≤ length buf
-  pub judged : judged_of way (policy_at (word words 0)) (tag_length_of (suite_at (word words 0))) (take n buf) ≡ Read h
+  pub judged : judged_of way (policy_at (word words 0)) (tag_length_of (suite_at (word words 0))) (take n buf) ≡ Ok h
   pub room : n + added_of way (policy_at (word words 0)) (tag_length_of (suite_at (word words 0))) h ≤ length buf
 
 pub record Ready (way : Way) (words buf : List ℕ) (n i k : ℕ) (h : Layout) : Type 0 where
   pub readable : Readable way words buf n h
   pub placed : Placed way words (take n buf) i k
 
-abbrev pub ReadyAt : Way → List ℕ → List ℕ → ℕ → ℕ → ℕ → Header → Type 0
-ReadyAt way words buf n i k (Read h) = Ready way words buf n i k h
-ReadyAt way words buf n i k (Refused r) = Unit {0}
+abbrev pub ReadyAt : Way → List ℕ → List ℕ → ℕ → ℕ → ℕ → Result Layout Refusal → Type 0
+ReadyAt way words buf n i k (Ok h) = Ready way words buf n i k h
+ReadyAt way words buf n i k (Err r) = Unit {0}
 
 abbrev pub OpensAs : Way → List ℕ → List ℕ → ℕ → Opened → Type 0
 OpensAs way words buf n o = ReadyAt way words buf n o.place o.index o.header

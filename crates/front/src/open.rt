@@ -9,12 +9,10 @@ use policies::judge::{added, judge};
 use policies::policy::Way;
 use records::places::place_of;
 use records::tracks;
-use replay::answer::Judged;
-use rtp_header::header::{Header, Layout, header_number};
+use rtp_header::header::{Layout, header_number};
 use session::answer::Answer;
 use session::layout::SIZE;
 use session::load::{load_policy, load_suite};
-use session::place::Place;
 use suites::suite::tag_length;
 
 // The header reader's answer, which now also says whether the packet has room, a stream and an index; the place of the stream's record, and the index.
@@ -22,13 +20,13 @@ use suites::suite::tag_length;
 #[derive(Clone, Copy)]
 pub struct Opened {
     pub number: u32,
-    pub header: Header,
+    pub header: Result<Layout, Refusal>,
     pub place: usize,
     pub index: u64,
 }
 
 // Refused with the header reader's answer.
-fn not_read(header: Header) -> Opened
+fn not_read(header: Result<Layout, Refusal>) -> Opened
     ensures { result ≡ unread header }
 {
     Opened {
@@ -42,7 +40,7 @@ fn not_read(header: Header) -> Opened
 fn refuse(refusal: Refusal) -> Opened
     ensures { result ≡ shut refusal }
 {
-    not_read(Header::Refused(refusal))
+    not_read(Err(refusal))
 }
 
 // What a call gives back where its front refused.
@@ -62,15 +60,15 @@ fn in_stream(session: &[u64], packet: &[u8], way: Way, h: Layout) -> Opened
     ensures in_stream { InStream way session.now packet.now result }
 {
     let own = ssrc(packet);
-    let Place::At(i) = place_of(session, own, way) else {
+    let Some(i) = place_of(session, own, way) else {
         return refuse(Refusal::Stream);
     };
     let sequence = sequence_number(packet);
     match tracks::judge(session, i, way, sequence) {
-        Judged::Refused(refusal) => refuse(refusal),
-        Judged::Index(index) => Opened {
+        Err(refusal) => refuse(refusal),
+        Ok(index) => Opened {
             number: 0,
-            header: Header::Read(h),
+            header: Ok(h),
             place: i,
             index: index,
         },
@@ -85,7 +83,7 @@ pub fn open(session: &[u64], buf: &[u8], n: usize, way: Way) -> Opened
     if session.len() != SIZE {
         return Opened {
             number: MEMORY,
-            header: Header::Refused(Refusal::Stream),
+            header: Err(Refusal::Stream),
             place: 0,
             index: 0,
         };
@@ -97,7 +95,7 @@ pub fn open(session: &[u64], buf: &[u8], n: usize, way: Way) -> Opened
     let policy = load_policy(first);
     let t = tag_length(load_suite(first));
     let header = judge(&buf[0..n], way, policy, t);
-    let Header::Read(h) = header else {
+    let Ok(h) = header else {
         return not_read(header);
     };
     if buf.len() - n < added(way, policy, h, t) {

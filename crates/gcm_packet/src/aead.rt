@@ -1,7 +1,6 @@
 // A packet under AEAD_AES_128_GCM.
 ghost use Rattle.std.specs.Prelude.{◌≡◌, Bool, ℕ, ◌^◌, ◌≤◌, ◌<◌, length, take};
 ghost use Rattle.bits.specs.Pick.{pick};
-ghost use Rattle.rtp_header.specs.declared.header.Header.TheVariants.{Read};
 ghost use Rattle.suites.specs.declared.suite.Suite.TheVariants.{Gcm};
 ghost use Rattle.suites.specs.Suites.{tag_length_of};
 ghost use Rattle.policies.specs.Judging.{judged_of};
@@ -63,7 +62,7 @@ pub fn open_gcm(
     n: usize,
     h: Layout,
 ) -> bool
-    requires { (index < 2 ^ 48) × ((n ≤ length buf.old) × (judged_of Way.Receiving policy (tag_length_of Gcm) (take n buf.old) ≡ Read h)) }
+    requires { (index < 2 ^ 48) × ((n ≤ length buf.old) × (judged_of Way.Receiving policy (tag_length_of Gcm) (take n buf.old) ≡ Ok h)) }
     ensures value { result ≡ tag_fits Gcm keys policy ssrc index (take n buf.old) }
     ensures by_index { (listed : ℕ → Bool) → buf.new ≡ pick result (opened_of Gcm keys policy listed ssrc index n buf.old) buf.old }
 {

@@ -1,4 +1,5 @@
 -- What holds of every index that a step gives.
+use Rattle.std.specs.Prelude.{Result, Ok, Err}
 use mathlib.Core.Path.{◌≡◌, refl, ap, subst}
 use mathlib.Core.Bool.{Bool, true, false, not, ◌&&◌}
 use Prim.Native.Nat.{ℕ, ◌+◌, ◌*◌, ◌^◌, ◌<◌, ◌≤◌}
@@ -9,8 +10,6 @@ use lib.IntN.{ℤ, pos, negsuc}
 use Rattle.bits.specs.Pick.{pick}
 use Rattle.bits.specs.declared.refusal.Refusal.{Refusal}
 use Rattle.bits.specs.declared.refusal.Refusal.TheVariants as refusal
-use Rattle.replay.specs.declared.answer.Judged.{Judged}
-use Rattle.replay.specs.declared.answer.Judged.TheVariants.{Index, Refused}
 use Rattle.replay.specs.Receive.{Received, index_for, judge_index, receive_of}
 use Rattle.replay.specs.State.{ReplayState, judge_of, after_of}
 use Rattle.replay.specs.Guess.{low_of}
@@ -25,14 +24,14 @@ picked P true x y f g = f refl
 picked P false x y f g = g refl
 
 -- a test that may refuse
-unless : (P : ℕ → Type 0) (t : Bool) (r : Refusal) (j : Judged) → (t ≡ false → Gives P j) → Gives P (pick t (Refused r) j)
+unless : (P : ℕ → Type 0) (t : Bool) (r : Refusal) (j : Result ℕ Refusal) → (t ≡ false → Gives P j) → Gives P (pick t (Err r) j)
 unless P true r j f = tt
 unless P false r j f = f refl
 
 -- an index that was given
-pub gives_at : (P : ℕ → Type 0) (j : Judged) (i : ℕ) → j ≡ Index i → Gives P j → P i
-gives_at P (Index k) i e g = let z : k ≡ i = cc in subst P z g
-gives_at P (Refused r) i e g = let z : ◌≡◌ {A = ℕ} 0 1 = cc in absurd (omega arith)
+pub gives_at : (P : ℕ → Type 0) (j : Result ℕ Refusal) (i : ℕ) → j ≡ Ok i → Gives P j → P i
+gives_at P (Ok k) i e g = let z : k ≡ i = cc in subst P z g
+gives_at P (Err r) i e g = let z : ◌≡◌ {A = ℕ} 0 1 = cc in absurd (omega arith)
 
 first-of : (x y : Bool) → x && y ≡ true → x ≡ true
 first-of true y e = refl
@@ -44,9 +43,9 @@ module _ (b W : ℕ) (s : ReplayState) (P : ℕ → Type 0) where
   judge-gives : (i : ℕ) → P i → Gives P (judge_of b W s i)
   unfolding judge_of
   judge-gives i p =
-      let new = pick (seen_in b s.window i) (Refused refusal.Repeat) (Index i) in
-      picked (Gives P) s.started (pick (leb (i + W) s.highest) (Refused refusal.Old) new) (Index i)
-      (λ e. unless P (leb (i + W) s.highest) refusal.Old new (λ o. unless P (seen_in b s.window i) refusal.Repeat (Index i) (λ r. p)))
+      let new = pick (seen_in b s.window i) (Err refusal.Repeat) (Ok i) in
+      picked (Gives P) s.started (pick (leb (i + W) s.highest) (Err refusal.Old) new) (Ok i)
+      (λ e. unless P (leb (i + W) s.highest) refusal.Old new (λ o. unless P (seen_in b s.window i) refusal.Repeat (Ok i) (λ r. p)))
       (λ e. p)
 
   index_gives : (z : ℤ) → ((i : ℕ) → z ≡ pos i → i < 2 ^ 48 → P i) → Gives P (judge_index b W s z)
@@ -80,10 +79,10 @@ module _ (s : ReplayState) (rollover seq : ℕ) (P : ℕ → Type 0) where
   next-gives f g =
       let t = step_of s.highest seq in
       let ordered = leb 1 t && leb t 32767 in
-      let new = pick (leb (2 ^ 48) (s.highest + t)) (Refused refusal.Worn) (Index (s.highest + t)) in
-      picked (Gives P) s.started (pick (not ordered) (Refused refusal.Order) new) (Index (rollover * 65536 + seq))
+      let new = pick (leb (2 ^ 48) (s.highest + t)) (Err refusal.Worn) (Ok (s.highest + t)) in
+      picked (Gives P) s.started (pick (not ordered) (Err refusal.Order) new) (Ok (rollover * 65536 + seq))
       (λ e. unless P (not ordered) refusal.Order new
-      (λ o. unless P (leb (2 ^ 48) (s.highest + t)) refusal.Worn (Index (s.highest + t))
+      (λ o. unless P (leb (2 ^ 48) (s.highest + t)) refusal.Worn (Ok (s.highest + t))
       (λ w. g e (leb-true 1 t (first-of (leb 1 t) (leb t 32767) (not-false ordered o))) (leb-false (2 ^ 48) (s.highest + t) w))))
       (λ e. f e)
 

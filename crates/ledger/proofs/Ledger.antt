@@ -1,4 +1,6 @@
 -- A state remembers what the ledger holds, as far as the width goes, as long as both are fed the same arrivals.
+use Rattle.bits.specs.declared.refusal.Refusal.{Refusal}
+use Rattle.std.specs.Prelude.{Result, Ok, Err}
 use mathlib.Core.Path.{◌≡◌, refl, sym, ap, ap₂, ◌∙◌}
 use mathlib.Core.Bool.{Bool, true, false}
 use mathlib.Core.List.{List, [], ◌∷◌}
@@ -13,8 +15,6 @@ use lib.ListN.{get_or, replicate, length-replicate, get_or-replicate}
 use Rattle.bits.specs.Pick.{pick}
 use Rattle.bits.specs.declared.refusal.Refusal.TheVariants as refusal
 use Rattle.bits.proofs.Bits.{no-bit}
-use Rattle.replay.specs.declared.answer.Judged.{Judged}
-use Rattle.replay.specs.declared.answer.Judged.TheVariants.{Index, Refused}
 use Rattle.replay.specs.declared.answer.Told.{Told}
 use Rattle.replay.specs.State.{ReplayState, fresh_of, judge_of, accept_of, after_of}
 use Rattle.replay.specs.Answers.{told_of}
@@ -94,7 +94,7 @@ iff false false f g = refl
 -- ---- one arrival
 
 -- an answer, and the state after it, are as the ledger says
-pub record Agrees (b W : ℕ) (j : Judged) (s : ReplayState) (e : Entry) : Type 0 where
+pub record Agrees (b W : ℕ) (j : Result ℕ Refusal) (s : ReplayState) (e : Entry) : Type 0 where
   pub told : told_of j ≡ e.told
   pub remembers : Remembers b W s e.held
 
@@ -121,19 +121,19 @@ module _ (b W : ℕ) (room : W + 64 ≤ 64 * b) (s : ReplayState) where
   seen-held : (l : List ℕ) (i : ℕ) → Remembers b W s l → highest_of l < i + W → seen_in b s.window i ≡ holds l i
   seen-held l i m new = iff _ _ (m.sound i) (λ h. m.complete i h new)
 
-  as-given : (l : List ℕ) (i : ℕ) → judge_of b W s i ≡ Index i → enter W l i ≡ given l i → Remembers b W (accept_of b s i) (i ∷ l)
+  as-given : (l : List ℕ) (i : ℕ) → judge_of b W s i ≡ Ok i → enter W l i ≡ given l i → Remembers b W (accept_of b s i) (i ∷ l)
       → Agrees b W (judge_of b W s i) (after_of b s (judge_of b W s i)) (enter W l i)
   as-given l i e f m = rw (e, f) (record { told = refl; remembers = m })
 
   later : (k : ℕ) (l : List ℕ) (i : ℕ) → Remembers b W s (k ∷ l) → (x y : Bool) → leb (i + W) (highest_of (k ∷ l)) ≡ x → holds (k ∷ l) i ≡ y
       → Agrees b W (judge_of b W s i) (after_of b s (judge_of b W s i)) (enter W (k ∷ l) i)
   later k l i m true y ex ey =
-      let e : judge_of b W s i ≡ Refused refusal.Old = old b W s i m.started (rw m.highest ex) in
+      let e : judge_of b W s i ≡ Err refusal.Old = old b W s i m.started (rw m.highest ex) in
       let f : enter W (k ∷ l) i ≡ refused (k ∷ l) 12 = simp ex in
       rw (e, f) (record { told = refl; remembers = m })
   later k l i m false true ex ey =
       let v : seen_in b s.window i ≡ true = seen-held (k ∷ l) i m (leb-false _ _ ex) ∙ ey in
-      let e : judge_of b W s i ≡ Refused refusal.Repeat = repeated b W s i m.started (rw m.highest ex) v in
+      let e : judge_of b W s i ≡ Err refusal.Repeat = repeated b W s i m.started (rw m.highest ex) v in
       let f : enter W (k ∷ l) i ≡ refused (k ∷ l) 13 = simp (ex, ey) in
       rw (e, f) (record { told = refl; remembers = m })
   later k l i m false false ex ey =

@@ -1,8 +1,6 @@
 -- What is claimed of the guess, and of every index that a step gives.
-use Rattle.std.specs.Prelude.{◌≡◌, true, false, ℕ, ◌+◌, ◌*◌, ◌^◌, ◌<◌, ◌≤◌, pos, negsuc, nat_abs, ◌+ℤ◌}
+use Rattle.std.specs.Prelude.{◌≡◌, true, false, ℕ, ◌+◌, ◌*◌, ◌^◌, ◌<◌, ◌≤◌, pos, negsuc, nat_abs, ◌+ℤ◌, Result, Ok, Err}
 use Rattle.bits.specs.declared.refusal.Refusal.{Refusal}
-use Rattle.replay.specs.declared.answer.Judged.{Judged}
-use Rattle.replay.specs.declared.answer.Judged.TheVariants.{Index, Refused}
 use Rattle.replay.specs.State.{ReplayState}
 use Rattle.replay.specs.Guess.{low_of, guess_of, distance_of}
 use Rattle.replay.specs.Receive.{receive_of}
@@ -20,9 +18,9 @@ pub record GuessIsRight : Type 0 where
   pub near : (h i : ℕ) → i < h + 32768 → h < i + 32768 → guess_of h (low_of i) ≡ pos i
 
 -- P holds of the index, where the answer is one; of a refusal nothing is said
-abbrev pub Gives : (ℕ → Type 0) → Judged → Type 0
-Gives P (Index i) = P i
-Gives P (Refused r) = Unit {0}
+abbrev pub Gives : (ℕ → Type 0) → Result ℕ Refusal → Type 0
+Gives P (Ok i) = P i
+Gives P (Err r) = Unit {0}
 
 -- of a receiver's step with b blocks and width W, and of a sender's, from any state
 pub record Receiving (b W : ℕ) (s : ReplayState) (rollover seq : ℕ) : Type 0 where
@@ -30,15 +28,15 @@ pub record Receiving (b W : ℕ) (s : ReplayState) (rollover seq : ℕ) : Type 0
   pub small : Gives (λ i. i < 2 ^ 48) (receive_of b W s rollover seq).judged
   pub low : Gives (λ i. low_of i ≡ seq) (receive_of b W s rollover seq).judged
   -- a first packet is neither old nor repeated
-  pub first : s.started ≡ false → (receive_of b W s rollover seq).judged ≡ Index (rollover * 65536 + seq)
+  pub first : s.started ≡ false → (receive_of b W s rollover seq).judged ≡ Ok (rollover * 65536 + seq)
   -- a refusal leaves the state
-  pub stays : (r : Refusal) → (receive_of b W s rollover seq).judged ≡ Refused r → (receive_of b W s rollover seq).state ≡ s
+  pub stays : (r : Refusal) → (receive_of b W s rollover seq).judged ≡ Err r → (receive_of b W s rollover seq).state ≡ s
 
 pub record Sending (s : ReplayState) (rollover seq : ℕ) : Type 0 where
   pub small : Gives (λ i. i < 2 ^ 48) (send_of s rollover seq).judged
   pub low : Gives (λ i. low_of i ≡ seq) (send_of s rollover seq).judged
-  pub first : s.started ≡ false → (send_of s rollover seq).judged ≡ Index (rollover * 65536 + seq)
-  pub stays : (r : Refusal) → (send_of s rollover seq).judged ≡ Refused r → (send_of s rollover seq).state ≡ s
+  pub first : s.started ≡ false → (send_of s rollover seq).judged ≡ Ok (rollover * 65536 + seq)
+  pub stays : (r : Refusal) → (send_of s rollover seq).judged ≡ Err r → (send_of s rollover seq).state ≡ s
   -- a later index is above the last, so that no index is sent twice
   pub forward : s.started ≡ true → Gives (λ i. s.highest < i) (send_of s rollover seq).judged
 

@@ -1,4 +1,5 @@
 -- The packet that is given back, as the code puts it together: decrypted, and out of its form.
+use Rattle.std.specs.Prelude.{Ok}
 use mathlib.Core.Path.{◌≡◌, sym, ap, ap₂, ◌∙◌}
 use mathlib.Core.Bool.{Bool}
 use mathlib.Core.List.{List, ◌++◌}
@@ -6,7 +7,6 @@ use Prim.Native.Nat.{ℕ, ◌-◌, ◌≤◌}
 use native.Mathlib.Omega.{arith}
 use lib.ListN.{length, take, drop}
 use lib.Seq.{take_at, drop_at, take-take, length-take-le}
-use Rattle.rtp_header.specs.declared.header.Header.TheVariants.{Read}
 use Rattle.rtp_header.specs.declared.header.Layout.{Layout}
 use Rattle.rtp_header.specs.Header.{layout_of}
 use Rattle.suites.specs.declared.suite.Suite.{Suite}
@@ -24,7 +24,7 @@ use Rattle.wire.specs.Steps.{opened_of}
 use Rattle.wire.proofs.Arriving.{long, read, fits}
 
 module _ (suite : Suite) (keys : Keys) (policy : Policy) (listed : ℕ → Bool) (ssrc index : ℕ) (l : List ℕ) (n : ℕ) (h : Layout) (inside : n ≤ length l)
-    (e : judged_of Receiving policy (tag_length_of suite) (take n l) ≡ Read h) where
+    (e : judged_of Receiving policy (tag_length_of suite) (take n l) ≡ Ok h) where
   abbrev t : ℕ
   t = tag_length_of suite
 

@@ -1,7 +1,6 @@
 // Protecting and unprotecting one packet in its buffer. The form is made first and the cipher called in one place: so the keys are laid out once.
 ghost use Rattle.std.specs.Prelude.{◌≡◌, ◌++◌, ◌+◌, ◌-◌, ◌^◌, ◌≤◌, ◌<◌, length, take, drop};
 ghost use Rattle.bits.specs.Pick.{pick};
-ghost use Rattle.rtp_header.specs.declared.header.Header.TheVariants.{Read};
 ghost use Rattle.rtp_elements.specs.Mask.{listed_in};
 ghost use Rattle.suites.specs.Suites.{tag_length_of};
 ghost use Rattle.policies.specs.Judging.{added_of, judged_of};
@@ -38,7 +37,7 @@ pub fn protect_packet(
     n: usize,
     h: Layout,
 ) -> usize
-    requires index_bound { (index < 2 ^ 48) × ((n ≤ length buf.old) × (judged_of Way.Sending policy (tag_length_of suite) (take n buf.old) ≡ Read h)) }
+    requires index_bound { (index < 2 ^ 48) × ((n ≤ length buf.old) × (judged_of Way.Sending policy (tag_length_of suite) (take n buf.old) ≡ Ok h)) }
     requires h_in_bounds { n + added_of Way.Sending policy (tag_length_of suite) h ≤ length buf.old }
     ensures value { result ≡ n + added_of Way.Sending policy (tag_length_of suite) h }
     ensures buf_after { buf.new ≡ wire_of suite keys policy (listed_in ids.now) ssrc index (take n buf.old) ++ drop result buf.old }
@@ -74,7 +73,7 @@ pub fn unprotect_packet(
     n: usize,
     h: Layout,
 ) -> bool
-    requires { (index < 2 ^ 48) × ((n ≤ length buf.old) × (judged_of Way.Receiving policy (tag_length_of suite) (take n buf.old) ≡ Read h)) }
+    requires { (index < 2 ^ 48) × ((n ≤ length buf.old) × (judged_of Way.Receiving policy (tag_length_of suite) (take n buf.old) ≡ Ok h)) }
     ensures value { result ≡ tag_fits suite keys policy ssrc index (take n buf.old) }
     ensures buf_after { buf.new ≡ pick result (restore_of suite keys policy (listed_in ids.now) ssrc index (take n buf.old) ++ drop (n - tag_length_of suite) buf.old) buf.old }
 {

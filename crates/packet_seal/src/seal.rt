@@ -1,7 +1,6 @@
 // A packet under the suite of its session.
 ghost use Rattle.std.specs.Prelude.{◌≡◌, ◌^◌, ◌≤◌, ◌<◌, length, take};
 ghost use Rattle.bits.specs.Pick.{pick};
-ghost use Rattle.rtp_header.specs.declared.header.Header.TheVariants.{Read};
 ghost use Rattle.rtp_elements.specs.Mask.{listed_in};
 ghost use Rattle.suites.specs.Suites.{tag_length_of};
 ghost use Rattle.policies.specs.Judging.{judged_of};
@@ -61,7 +60,7 @@ pub fn open(
     n: usize,
     h: Layout,
 ) -> bool
-    requires { (index < 2 ^ 48) × ((n ≤ length buf.old) × (judged_of Way.Receiving policy (tag_length_of suite) (take n buf.old) ≡ Read h)) }
+    requires { (index < 2 ^ 48) × ((n ≤ length buf.old) × (judged_of Way.Receiving policy (tag_length_of suite) (take n buf.old) ≡ Ok h)) }
     ensures value { result ≡ tag_fits suite keys policy ssrc index (take n buf.old) }
     ensures buf_after { buf.new ≡ pick result (opened_of suite keys policy (listed_in ids.now) ssrc index n buf.old) buf.old }
 {

@@ -1,4 +1,5 @@
 -- What judging a packet answers at each of its ends: g is the header as it was read.
+use Rattle.std.specs.Prelude.{Result, Ok, Err}
 use mathlib.Core.Path.{◌≡◌, refl, sym, ap, ◌∙◌}
 use mathlib.Core.Bool.{true, false}
 use mathlib.Core.List.{List}
@@ -9,8 +10,6 @@ use lib.ListN.{length}
 use Rattle.bits.specs.declared.refusal.Refusal.{Refusal}
 use Rattle.bits.specs.declared.refusal.Refusal.TheVariants as refusal
 use Rattle.bits.proofs.Refusals.{above_zero}
-use Rattle.rtp_header.specs.declared.header.Header.{Header}
-use Rattle.rtp_header.specs.declared.header.Header.TheVariants.{Read, Refused}
 use Rattle.rtp_header.specs.declared.header.Layout.{Layout}
 use Rattle.rtp_header.specs.Header.{layout_of, header_of, header_number}
 use Rattle.rtp_header.proofs.Reading.{header-cases}
@@ -21,30 +20,30 @@ use Rattle.policies.specs.declared.policy.Way.TheVariants.{Receiving}
 use Rattle.policies.specs.Policies.{uses_mask}
 use Rattle.policies.specs.Judging.{tail_of, profile_fits, elements_fit, added_of, judged_after, judged_of}
 
-module _ (way : Way) (policy : Policy) (t : ℕ) (p : List ℕ) (g : Header) (k : ℕ) (tail : k ≡ tail_of way t) (read : g ≡ header_of p k) where
+module _ (way : Way) (policy : Policy) (t : ℕ) (p : List ℕ) (g : Result Layout Refusal) (k : ℕ) (tail : k ≡ tail_of way t) (read : g ≡ header_of p k) where
   by-tail : header_of p (tail_of way t) ≡ g
   by-tail = ap (header_of p) (sym tail) ∙ sym read
 
-  pub is-refused : (r : Refusal) → g ≡ Refused r → g ≡ judged_of way policy t p
+  pub is-refused : (r : Refusal) → g ≡ Err r → g ≡ judged_of way policy t p
   unfolding judged_of
   is-refused r e = rw (by-tail, e)
 
-  module _ (h : Layout) (found : g ≡ Read h) where
-    pub no-profile : profile_fits way policy h ≡ false → Refused refusal.Profile ≡ judged_of way policy t p
+  module _ (h : Layout) (found : g ≡ Ok h) where
+    pub no-profile : profile_fits way policy h ≡ false → Err refusal.Profile ≡ judged_of way policy t p
     unfolding judged_of
     no-profile a = rw (by-tail, found, a)
 
     module _ (a : profile_fits way policy h ≡ true) where
-      pub no-elements : elements_fit policy h p ≡ false → Refused refusal.Element ≡ judged_of way policy t p
+      pub no-elements : elements_fit policy h p ≡ false → Err refusal.Element ≡ judged_of way policy t p
       unfolding judged_of
       no-elements b = rw (by-tail, found, a, b)
 
       module _ (b : elements_fit policy h p ≡ true) where
-        pub too_large : 2048 < length p + added_of way policy t h → Refused refusal.Large ≡ judged_of way policy t p
+        pub too_large : 2048 < length p + added_of way policy t h → Err refusal.Large ≡ judged_of way policy t p
         unfolding judged_of
         too_large c = rw (by-tail, found, a, b, lt-ltb 2048 (length p + added_of way policy t h) c)
 
-        pub all-fits : length p + added_of way policy t h ≤ 2048 → Read h ≡ judged_of way policy t p
+        pub all-fits : length p + added_of way policy t h ≤ 2048 → Ok h ≡ judged_of way policy t p
         unfolding judged_of
         all-fits c = rw (by-tail, found, a, b, le-ltb 2048 (length p + added_of way policy t h) c)
 
@@ -52,10 +51,10 @@ module _ (way : Way) (policy : Policy) (t : ℕ) (p : List ℕ) (g : Header) (k 
 
 -- a header that can be read, of a packet that PROFILE refuses
 pub profile-refused : (way : Way) (policy : Policy) (t : ℕ) (p : List ℕ) → header_number (header_of p (tail_of way t)) ≡ 0
-    → profile_fits way policy (layout_of p) ≡ false → judged_of way policy t p ≡ Refused refusal.Profile
+    → profile_fits way policy (layout_of p) ≡ false → judged_of way policy t p ≡ Err refusal.Profile
 unfolding judged_of
 profile-refused way policy t p =
-    header-cases (λ h. header_number h ≡ 0 → profile_fits way policy (layout_of p) ≡ false → judged_after way policy t p h ≡ Refused refusal.Profile)
+    header-cases (λ h. header_number h ≡ 0 → profile_fits way policy (layout_of p) ≡ false → judged_after way policy t p h ≡ Err refusal.Profile)
     (λ r z. absurd (omega (arith, above_zero r))) p (tail_of way t) (λ z e. rw e)
 
 -- a received packet that PROFILE does not refuse, without a mask: judged as under policy 0

@@ -1,9 +1,8 @@
 -- Document 01, "Numbers given back", with document 02, CR 2: refusals 2 to 7, for both ways. t is the length of the authentication tag.
-use Rattle.std.specs.Prelude.{Bool, true, not, ◌&&◌, ◌||◌, List, ℕ, ◌+◌, eqb, ltb, length}
+use Rattle.bits.specs.declared.refusal.Refusal.{Refusal}
+use Rattle.std.specs.Prelude.{Bool, true, not, ◌&&◌, ◌||◌, List, ℕ, ◌+◌, eqb, ltb, length, Result, Ok, Err}
 use Rattle.bits.specs.Pick.{pick}
 use Rattle.bits.specs.declared.refusal.Refusal.TheVariants as refusal
-use Rattle.rtp_header.specs.declared.header.Header.{Header}
-use Rattle.rtp_header.specs.declared.header.Header.TheVariants.{Read, Refused}
 use Rattle.rtp_header.specs.declared.header.Layout.{Layout}
 use Rattle.rtp_elements.specs.Elements.{whole_of}
 use Rattle.rtp_header.specs.Header.{block_of, header_of}
@@ -41,14 +40,14 @@ added_of Receiving policy t h = 0
 abbrev pub size_fits : Way → Policy → ℕ → Layout → List ℕ → Bool
 size_fits way policy t h p = not (ltb 2048 (length p + added_of way policy t h))
 
-abbrev pub judged_after : Way → Policy → ℕ → List ℕ → Header → Header
-judged_after way policy t p (Refused r) = Refused r
-judged_after way policy t p (Read h) =
-    pick (not (profile_fits way policy h)) (Refused refusal.Profile)
-    (pick (not (elements_fit policy h p)) (Refused refusal.Element)
-    (pick (not (size_fits way policy t h p)) (Refused refusal.Large)
-    (Read h)))
+abbrev pub judged_after : Way → Policy → ℕ → List ℕ → Result Layout Refusal → Result Layout Refusal
+judged_after way policy t p (Err r) = Err r
+judged_after way policy t p (Ok h) =
+    pick (not (profile_fits way policy h)) (Err refusal.Profile)
+    (pick (not (elements_fit policy h p)) (Err refusal.Element)
+    (pick (not (size_fits way policy t h p)) (Err refusal.Large)
+    (Ok h)))
 
 -- the layout, or the first of refusals 2 to 7 that applies
-unfoldable pub judged_of : Way → Policy → ℕ → List ℕ → Header
+unfoldable pub judged_of : Way → Policy → ℕ → List ℕ → Result Layout Refusal
 judged_of way policy t p = judged_after way policy t p (header_of p (tail_of way t))

@@ -6,7 +6,7 @@ use crate::policy::{Policy, Way};
 use crate::uses::{adds_block, is_cryptex_tag, uses_cryptex, uses_mask};
 use bits::refusal::Refusal;
 use rtp_elements::element::whole;
-use rtp_header::header::{Header, Layout, read_header};
+use rtp_header::header::{Layout, read_header};
 
 fn tail(way: Way, t: usize) -> usize
     ensures { result ≡ tail_of way t }
@@ -80,22 +80,22 @@ pub fn added(way: Way, policy: Policy, h: Layout, t: usize) -> usize
 }
 
 // The layout of a packet that gets, or has, a tag of t bytes; or the refusal.
-pub fn judge(packet: &[u8], way: Way, policy: Policy, t: usize) -> Header
+pub fn judge(packet: &[u8], way: Way, policy: Policy, t: usize) -> Result<Layout, Refusal>
     requires { t < 256 }
     ensures { result ≡ judged_of way policy t packet.now }
 {
     let header = read_header(packet, tail(way, t));
-    let Header::Read(h) = header else {
+    let Ok(h) = header else {
         return header;
     };
     if !profile_fits(way, policy, h) {
-        return Header::Refused(Refusal::Profile);
+        return Err(Refusal::Profile);
     }
     if !elements_fit(packet, policy, h) {
-        return Header::Refused(Refusal::Element);
+        return Err(Refusal::Element);
     }
     if 2048 - added(way, policy, h, t) < packet.len() {
-        return Header::Refused(Refusal::Large);
+        return Err(Refusal::Large);
     }
-    Header::Read(h)
+    Ok(h)
 }

@@ -1,4 +1,5 @@
 -- The track of record i as it is lent, judged and come back: the record's replay state.
+use Rattle.std.specs.Prelude.{Ok}
 use mathlib.Core.Path.{◌≡◌, refl, sym, ap, ap₂, ◌∙◌}
 use mathlib.Core.List.{List, [], ◌++◌}
 use Prim.Native.Nat.{ℕ, ◌+◌, ◌-◌, ◌%◌, ◌^◌, ◌<◌}
@@ -7,7 +8,6 @@ use lib.ListN.{length, get_or, take, drop}
 use Rattle.memory.specs.Parts.{part_at, with_part, place_in, cut}
 use Rattle.memory.specs.Words.{word}
 use Rattle.memory.proofs.Parts.{lent, came-back}
-use Rattle.replay.specs.declared.answer.Judged.TheVariants.{Index}
 use Rattle.replay.specs.Receive.{receive_of}
 use Rattle.replay.specs.Send.{send_of, sent_of}
 use Rattle.replay.specs.State.{ReplayState, accept_of}
@@ -68,13 +68,13 @@ module _ (words : List ℕ) (sized : length words ≡ size) (i : ℕ) (in32 : i 
         came-back from end words m (omega (arith, l))
         ∙ ap₂ (λ (a : ℕ) (p : List ℕ). with_part (a + place_in record_layout the_replay) p words) is_at e
 
-    pub committed-sending : m ≡ state_words (sent_of (state_in track) (Index index))
+    pub committed-sending : m ≡ state_words (sent_of (state_in track) (Ok index))
         → take from words ++ (m ++ drop (end - from) (drop from words))
         ≡ with_replay_at words i (committed_by Sending (record_in words i) index)
     committed-sending e =
-        let n = e ∙ ap (λ (s : ReplayState). state_words (sent_of s (Index index))) state-is in
+        let n = e ∙ ap (λ (s : ReplayState). state_words (sent_of s (Ok index))) state-is in
         came (committed_by Sending (record_in words i) index) n
-        (ap length n ∙ state-length blocks (committed_by Sending (record_in words i) index) (sent-blocks blocks (record_in words i).replay (replay-blocks words sized i in32) (Index index)))
+        (ap length n ∙ state-length blocks (committed_by Sending (record_in words i) index) (sent-blocks blocks (record_in words i).replay (replay-blocks words sized i in32) (Ok index)))
 
     pub committed-receiving : m ≡ state_words (accept_of (blocks_in (drop 2 track)) (state_in track) index)
         → take from words ++ (m ++ drop (end - from) (drop from words))

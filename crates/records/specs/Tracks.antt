@@ -1,7 +1,6 @@
 -- A packet beside its stream's record, sent or received: its index or the refusal (document 01, numbers 10 to 13), and the replay state once it was taken.
-use Rattle.std.specs.Prelude.{List, ℕ, get_or}
-use Rattle.replay.specs.declared.answer.Judged.{Judged}
-use Rattle.replay.specs.declared.answer.Judged.TheVariants.{Index}
+use Rattle.bits.specs.declared.refusal.Refusal.{Refusal}
+use Rattle.std.specs.Prelude.{List, ℕ, get_or, Result, Ok}
 use Rattle.replay.specs.Receive.{receive_of}
 use Rattle.replay.specs.Send.{send_of, sent_of}
 use Rattle.replay.specs.State.{ReplayState, accept_of}
@@ -16,10 +15,10 @@ use Rattle.session.specs.Session.{Record}
 abbrev pub record_in : List ℕ → ℕ → Record
 record_in words i = get_or (records_in words) i no_record
 
-abbrev pub judged_by : Way → Record → ℕ → Judged
+abbrev pub judged_by : Way → Record → ℕ → Result ℕ Refusal
 judged_by Sending r seq = (send_of r.replay r.rollover seq).judged
 judged_by Receiving r seq = (receive_of blocks width r.replay r.rollover seq).judged
 
 abbrev pub committed_by : Way → Record → ℕ → ReplayState
-committed_by Sending r index = sent_of r.replay (Index index)
+committed_by Sending r index = sent_of r.replay (Ok index)
 committed_by Receiving r index = accept_of blocks r.replay index

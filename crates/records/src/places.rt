@@ -8,7 +8,6 @@ ghost use Rattle.memory.specs.Words.{word};
 use policies::policy::Way;
 use session::layout::{EACH, FRONT};
 use session::load::is_made;
-use session::place::Place;
 
 // The first word of the record for an SSRC and a way.
 pub fn head_word(ssrc: u32, way: Way) -> u64
@@ -21,23 +20,23 @@ pub fn head_word(ssrc: u32, way: Way) -> u64
 }
 
 // The place of the record for this SSRC and this way: one word of each record tells.
-pub fn place_of(session: &[u64], ssrc: u32, way: Way) -> Place
+pub fn place_of(session: &[u64], ssrc: u32, way: Way) -> Option<usize>
     requires { length session.now ≡ size }
     ensures value { result ≡ place_from 0 (decode session.now).records ssrc way }
     ensures inside { Inside result }
 {
     if !is_made(session[0]) {
-        return Place::Nowhere;
+        return None;
     }
     let head = head_word(ssrc, way);
     let mut i: usize = 0;
     while i < 32 {
         if session[FRONT + EACH * i] == head {
-            return Place::At(i);
+            return Some(i);
         }
         i += 1;
     }
-    Place::Nowhere
+    None
 }
 
 fn is_free(head: u64) -> bool
@@ -51,7 +50,7 @@ fn is_free(head: u64) -> bool
 }
 
 // The first free place of a made session.
-pub fn free_place(session: &[u64]) -> Place
+pub fn free_place(session: &[u64]) -> Option<usize>
     requires { (length session.now ≡ size) × (is_mark (word session.now 0) ≡ true) }
     ensures value { result ≡ free_from 0 (decode session.now).records }
     ensures inside { Inside result }
@@ -59,11 +58,11 @@ pub fn free_place(session: &[u64]) -> Place
     let mut place: usize = 0;
     while place < 32 {
         if is_free(session[FRONT + EACH * place]) {
-            return Place::At(place);
+            return Some(place);
         }
         place += 1;
     }
-    Place::Nowhere
+    None
 }
 
 fn is_of(head: u64, ssrc: u32) -> bool

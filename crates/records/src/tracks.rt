@@ -4,8 +4,8 @@ ghost use Rattle.session.specs.Calls.{with_replay_at};
 ghost use Rattle.session.specs.Memory.{size, record_place};
 ghost use Rattle.records.specs.Tracks.{record_in, judged_by, committed_by};
 
+use bits::refusal::Refusal;
 use policies::policy::Way;
-use replay::answer::Judged;
 use replay::receive::{accept, receive};
 use replay::send::{send, sent};
 use session::layout::{EACH, FRONT, REPLAY, REPLAY_END, ROLLOVER};
@@ -23,7 +23,7 @@ fn record_place(i: usize) -> usize
 }
 
 // The index of a packet with this sequence number, or the refusal. Nothing is written.
-pub fn judge(session: &[u64], i: usize, way: Way, sequence: u16) -> Judged
+pub fn judge(session: &[u64], i: usize, way: Way, sequence: u16) -> Result<u64, Refusal>
     requires { (length session.now ≡ size) × (i < 32) }
     ensures { result ≡ judged_by way (record_in session.now i) sequence }
 {

@@ -1,4 +1,5 @@
 -- Tracks and states, for what is built on top: a state in words and back, how many words there are, and what a step leaves.
+use Rattle.std.specs.Prelude.{Result, Ok, Err}
 use mathlib.Core.Path.{◌≡◌, refl, sym, ap, ap₂, ◌∙◌}
 use mathlib.Core.Bool.{Bool, true, false}
 use mathlib.Core.List.{List, ◌++◌}
@@ -9,8 +10,6 @@ use lib.ListN.{length, get_or, take, drop, replicate, take-append-drop, length-a
 use lib.Seq.{length-take-le, take_at, drop_at}
 use Rattle.bits.specs.Pick.{pick}
 use Rattle.bits.specs.declared.refusal.Refusal.{Refusal}
-use Rattle.replay.specs.declared.answer.Judged.{Judged}
-use Rattle.replay.specs.declared.answer.Judged.TheVariants.{Index, Refused}
 use Rattle.replay.specs.Window.{Window, mark_of}
 use Rattle.replay.specs.State.{ReplayState, fresh_of, accept_of, after_of}
 use Rattle.replay.specs.Receive.{index_for, judge_index, receive_of}
@@ -21,20 +20,20 @@ use Rattle.replay.specs.Track.{blocks_in, window_in, window_words, state_in, sta
 
 -- an index is accepted, a refusal leaves the state
 module _ (b W : ℕ) (s : ReplayState) (rollover seq : ℕ) where
-  pub received-state : (i : ℕ) → (receive_of b W s rollover seq).judged ≡ Index i → (receive_of b W s rollover seq).state ≡ accept_of b s i
+  pub received-state : (i : ℕ) → (receive_of b W s rollover seq).judged ≡ Ok i → (receive_of b W s rollover seq).state ≡ accept_of b s i
   unfolding receive_of
   received-state i e = ap (after_of b s) e
 
-  pub not-received : (r : Refusal) → (receive_of b W s rollover seq).judged ≡ Refused r → (receive_of b W s rollover seq).state ≡ s
+  pub not-received : (r : Refusal) → (receive_of b W s rollover seq).judged ≡ Err r → (receive_of b W s rollover seq).state ≡ s
   unfolding receive_of
   not-received r e = ap (after_of b s) e
 
 module _ (s : ReplayState) (rollover seq : ℕ) where
-  pub sent-state : (i : ℕ) → (send_of s rollover seq).judged ≡ Index i → (send_of s rollover seq).state ≡ sent_of s (Index i)
+  pub sent-state : (i : ℕ) → (send_of s rollover seq).judged ≡ Ok i → (send_of s rollover seq).state ≡ sent_of s (Ok i)
   unfolding send_of
   sent-state i e = ap (sent_of s) e
 
-  pub not-sent : (r : Refusal) → (send_of s rollover seq).judged ≡ Refused r → (send_of s rollover seq).state ≡ s
+  pub not-sent : (r : Refusal) → (send_of s rollover seq).judged ≡ Err r → (send_of s rollover seq).state ≡ s
   unfolding send_of
   not-sent r e = ap (sent_of s) e
 
@@ -49,13 +48,13 @@ module _ (b : ℕ) (s : ReplayState) (whole : Blocks b s) where
   unfolding accept_of mark_of
   accept-blocks i = record { stamps = simp length-set whole.stamps; bits = simp length-set whole.bits }
 
-  pub after-blocks : (j : Judged) → Blocks b (after_of b s j)
-  after-blocks (Index i) = accept-blocks i
-  after-blocks (Refused r) = whole
+  pub after-blocks : (j : Result ℕ Refusal) → Blocks b (after_of b s j)
+  after-blocks (Ok i) = accept-blocks i
+  after-blocks (Err r) = whole
 
-  pub sent-blocks : (j : Judged) → Blocks b (sent_of s j)
-  sent-blocks (Index i) = record { stamps = whole.stamps; bits = whole.bits }
-  sent-blocks (Refused r) = whole
+  pub sent-blocks : (j : Result ℕ Refusal) → Blocks b (sent_of s j)
+  sent-blocks (Ok i) = record { stamps = whole.stamps; bits = whole.bits }
+  sent-blocks (Err r) = whole
 
   pub send-blocks : (rollover seq : ℕ) → Blocks b (send_of s rollover seq).state
   unfolding send_of
@@ -127,7 +126,7 @@ module _ (l : List ℕ) (i : ℕ) where
       ap (λ (w : Window). record { started = true; highest = pick (eqb (get_or l 0 0) 1) (max (get_or l 1 0) i) i; window = w })
       (window-kept (mark_of (blocks_in (drop 2 l)) (window_in (drop 2 l)) i) (marked-halves (drop 2 l) i))
 
-  pub sent-kept : state_in (state_words (sent_of (state_in l) (Index i))) ≡ sent_of (state_in l) (Index i)
+  pub sent-kept : state_in (state_words (sent_of (state_in l) (Ok i))) ≡ sent_of (state_in l) (Ok i)
   unfolding state_in state_words window_in
   sent-kept = rw (take-append-drop (blocks_in (drop 2 l)) (drop 2 l))
 
@@ -142,7 +141,7 @@ module _ (l : List ℕ) (i : ℕ) where
         let u : length (take (blocks_in r) r) + length (drop (blocks_in r) r) ≡ length r = sym (length-append (take (blocks_in r) r) (drop (blocks_in r) r)) ∙ t in
         simp (length-append, length-set) (omega (arith, u, d))
 
-    pub sent-length : length (state_words (sent_of (state_in l) (Index i))) ≡ length l
+    pub sent-length : length (state_words (sent_of (state_in l) (Ok i))) ≡ length l
     unfolding state_in state_words window_in
     sent-length =
         let d : length (drop 2 l) ≡ length l - 2 = length-drop 2 l in

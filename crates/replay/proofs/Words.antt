@@ -1,4 +1,5 @@
 -- What the code reads off a track's words, and what it writes there.
+use Rattle.std.specs.Prelude.{Ok}
 use mathlib.Core.Path.{◌≡◌, refl}
 use mathlib.Core.List.{List, [], ◌∷◌, ◌++◌, append-nil}
 use Prim.Native.Nat.{ℕ, ◌+◌, ◌-◌, ◌*◌, ◌^◌, ◌≤◌, ◌<◌, max}
@@ -9,7 +10,6 @@ use lib.IntN.{ℤ, pos}
 use lib.ListN.{length, get_or, set, take, drop, take-append-drop, drop_of_length-le, length-drop}
 use lib.Seq.{take_all}
 use Rattle.bits.specs.Pick.{pick}
-use Rattle.replay.specs.declared.answer.Judged.TheVariants.{Index}
 use Rattle.replay.specs.Guess.{guess_of, distance_of}
 use Rattle.replay.specs.Window.{mark_of}
 use Rattle.replay.specs.State.{accept_of}
@@ -26,7 +26,7 @@ module _ (l : List ℕ) (W rollover seq : ℕ) where
   b = blocks_in (drop 2 l)
 
   pub first-arrival : (get_or l 0 0 ≡ 1 → ⊥) → rollover * 65536 + seq < 2 ^ 48
-      → arrival_of b W (state_in l) rollover seq ≡ record { judged = Index (rollover * 65536 + seq); distance = pos 0 }
+      → arrival_of b W (state_in l) rollover seq ≡ record { judged = Ok (rollover * 65536 + seq); distance = pos 0 }
   unfolding state_in
   first-arrival e h = rw (first-received b W (state_in l) rollover seq (ne_eqb (get_or l 0 0) 1 e) h)
 
@@ -37,7 +37,7 @@ module _ (l : List ℕ) (W rollover seq : ℕ) where
       rw (later-received b W (state_in l) rollover seq z d (eq-eqb (get_or l 0 0) 1 e) g k, eq-eqb (get_or l 0 0) 1 e)
 
 module _ (l : List ℕ) (rollover seq : ℕ) where
-  pub first-send : (get_or l 0 0 ≡ 1 → ⊥) → (send_of (state_in l) rollover seq).judged ≡ Index (rollover * 65536 + seq)
+  pub first-send : (get_or l 0 0 ≡ 1 → ⊥) → (send_of (state_in l) rollover seq).judged ≡ Ok (rollover * 65536 + seq)
   unfolding state_in send_of
   first-send e = first-sent (state_in l) rollover seq (ne_eqb (get_or l 0 0) 1 e)
 
@@ -70,6 +70,6 @@ set-two [] x y h = absurd (omega arith)
 set-two (k ∷ []) x y h = absurd (omega arith)
 set-two (k ∷ m ∷ l) x y h = refl
 
-pub sent-words : (l : List ℕ) → 2 ≤ length l → (i : ℕ) → set (set l 0 1) 1 i ≡ state_words (sent_of (state_in l) (Index i))
+pub sent-words : (l : List ℕ) → 2 ≤ length l → (i : ℕ) → set (set l 0 1) 1 i ≡ state_words (sent_of (state_in l) (Ok i))
 unfolding state_in state_words window_in
 sent-words l some i = rw (take-append-drop (blocks_in (drop 2 l)) (drop 2 l)) (set-two l 1 i some)

@@ -8,7 +8,6 @@ ghost use Rattle.replay.specs.Receive.{judge_index};
 ghost use Rattle.replay.specs.Steps.{arrival_of};
 ghost use Rattle.replay.specs.Track.{blocks_in, started_in, state_in, state_words};
 
-use crate::answer::Judged;
 use crate::guess::{difference, guess};
 use crate::index::{LIMIT, first_index};
 use crate::ring::{mark, seen};
@@ -17,7 +16,7 @@ use bits::refusal::Refusal;
 // `distance` is the guessed index less the highest accepted one, from -32,768 to 32,768. Of a stream's first packet it is free, and told as 0.
 #[derive(Clone, Copy)]
 pub struct Arrival {
-    pub judged: Judged,
+    pub judged: Result<u64, Refusal>,
     pub distance: i32,
 }
 
@@ -32,32 +31,32 @@ fn is_old(highest: u64, width: u64, index: u64) -> bool
 }
 
 // Old, repeated, or to be accepted, of a stream that had a packet.
-fn judge(ring: &[u64], highest: u64, width: u64, index: u64) -> Judged
+fn judge(ring: &[u64], highest: u64, width: u64, index: u64) -> Result<u64, Refusal>
     requires { 2 ≤ length ring.now }
     ensures { result ≡ judge_of (blocks_in ring.now) width (started_in highest ring.now) index }
 {
     if is_old(highest, width, index) {
-        return Judged::Refused(Refusal::Old);
+        return Err(Refusal::Old);
     }
     if seen(ring, index) {
-        return Judged::Refused(Refusal::Repeat);
+        return Err(Refusal::Repeat);
     }
-    Judged::Index(index)
+    Ok(index)
 }
 
 // The index `highest + up - down`: worn from 2^48 on, old below 0, else judged. The two tests are written so that no sum can wrap.
-fn judge_offset(ring: &[u64], highest: u64, width: u64, up: u32, down: u32) -> Judged
+fn judge_offset(ring: &[u64], highest: u64, width: u64, up: u32, down: u32) -> Result<u64, Refusal>
     requires { 2 ≤ length ring.now }
     ensures { result ≡ judge_index (blocks_in ring.now) width (started_in highest ring.now) (sub_ℕ (highest + up) down) }
 {
     let up = up as u64;
     let down = down as u64;
     if LIMIT + down - up <= highest {
-        return Judged::Refused(Refusal::Worn);
+        return Err(Refusal::Worn);
     }
     let reached = highest + up;
     if reached < down {
-        return Judged::Refused(Refusal::Old);
+        return Err(Refusal::Old);
     }
     judge(ring, highest, width, reached - down)
 }
@@ -70,7 +69,7 @@ pub fn receive(track: &[u64], width: u64, rollover: u32, sequence: u16) -> Arriv
 {
     if track[0] != 1 {
         return Arrival {
-            judged: Judged::Index(first_index(rollover, sequence)),
+            judged: Ok(first_index(rollover, sequence)),
             distance: 0,
         };
     }

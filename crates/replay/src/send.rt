@@ -1,11 +1,9 @@
 // The step of a sender, in two halves: `send` gives the index of the next packet, which moves forward by 1 to 32,767, and writes nothing; `sent`
 // writes, once the packet is made. Of its track a sender reads and writes the first two words only: started, and its last index.
 ghost use Rattle.std.specs.Prelude.{◌≡◌, ◌≤◌, length};
-ghost use Rattle.replay.specs.declared.answer.Judged.TheVariants.{Index};
 ghost use Rattle.replay.specs.Send.{step_of, stepped_of, sent_of, send_of};
 ghost use Rattle.replay.specs.Track.{state_in, state_words};
 
-use crate::answer::Judged;
 use crate::index::{LIMIT, first_index};
 use bits::refusal::Refusal;
 
@@ -17,30 +15,30 @@ fn step(last: u64, sequence: u16) -> u64
 }
 
 // The index after the last one.
-fn next(last: u64, sequence: u16) -> Judged
+fn next(last: u64, sequence: u16) -> Result<u64, Refusal>
     ensures { result ≡ stepped_of last (step_of last sequence) }
 {
     let step = step(last, sequence);
     if step == 0 {
-        return Judged::Refused(Refusal::Order);
+        return Err(Refusal::Order);
     }
     if 32767 < step {
-        return Judged::Refused(Refusal::Order);
+        return Err(Refusal::Order);
     }
     if LIMIT - step <= last {
-        return Judged::Refused(Refusal::Worn);
+        return Err(Refusal::Worn);
     }
-    Judged::Index(last + step)
+    Ok(last + step)
 }
 
 // The answer for a sequence number. `rollover` is the starting rollover of the stream, which counts for its first packet only. Any words have an
 // answer, also those that no list of packets leads to.
-pub fn send(track: &[u64], rollover: u32, sequence: u16) -> Judged
+pub fn send(track: &[u64], rollover: u32, sequence: u16) -> Result<u64, Refusal>
     requires { 2 ≤ length track.now }
     ensures { result ≡ (send_of (state_in track.now) rollover sequence).judged }
 {
     if track[0] != 1 {
-        return Judged::Index(first_index(rollover, sequence));
+        return Ok(first_index(rollover, sequence));
     }
     next(track[1], sequence)
 }
@@ -48,7 +46,7 @@ pub fn send(track: &[u64], rollover: u32, sequence: u16) -> Judged
 // One index more sent: two words written, the ring as it was. A sender keeps its last index only.
 pub fn sent(track: &mut [u64], index: u64)
     requires { 2 ≤ length track.old }
-    ensures { track.new ≡ state_words (sent_of (state_in track.old) (Index index)) }
+    ensures { track.new ≡ state_words (sent_of (state_in track.old) (Ok index)) }
 {
     track[0] = 1;
     track[1] = index;

@@ -1,4 +1,5 @@
 -- From what was found in the block to the part of the packet that is handed back.
+use Rattle.std.specs.Prelude.{Ok, Err}
 use mathlib.Core.Path.{◌≡◌, refl}
 use mathlib.Core.List.{List}
 use Prim.Native.Nat.{ℕ, ◌+◌, ◌-◌, ◌≤◌}
@@ -11,7 +12,6 @@ use Rattle.bits.specs.declared.refusal.Refusal.{Refusal}
 use Rattle.rtp_elements.specs.declared.element.Element.{Element}
 use Rattle.rtp_elements.specs.declared.element.Found.{Found}
 use Rattle.rtp_elements.specs.declared.element.Found.TheVariants.{At, Absent, Past}
-use Rattle.rtp_header.specs.declared.header.Header.TheVariants.{Read, Refused}
 use Rattle.rtp_header.specs.declared.header.Layout.{Layout}
 use Rattle.rtp.specs.Finding.{located_of, Part, refused_part, part_of, find_of, HandedBack}
 use Rattle.rtp_elements.specs.Numbers.{found_number}
@@ -26,11 +26,11 @@ refused-part Absent block o = refl
 refused-part Past block o = refl
 
 module _ (p : List ℕ) (id : ℕ) where
-  pub not-read : (r : Refusal) → header_of p 0 ≡ Refused r → find_of p id ≡ refused_part (number_of r)
+  pub not-read : (r : Refusal) → header_of p 0 ≡ Err r → find_of p id ≡ refused_part (number_of r)
   unfolding find_of
   not-read r e = rw e
 
-  pub read : (h : Layout) (f : Found) → header_of p 0 ≡ Read h → f ≡ located_of h.tag (block_of h p) id → find_of p id ≡ part_of h.block f
+  pub read : (h : Layout) (f : Found) → header_of p 0 ≡ Ok h → f ≡ located_of h.tag (block_of h p) id → find_of p id ≡ part_of h.block f
   unfolding find_of
   read h f e l = rw (e, l)
 
@@ -41,7 +41,7 @@ pub handed : (packet r : Bor (List ℕ)) (id answer : ℕ) (part : Part) → fin
 handed packet r id answer part e a i b o p = rw e (record { answered = a; inside = i; bytes = b; object = o; place = p })
 
 -- an element that ends within its block ends within the packet
-pub inside-packet : (p : List ℕ) (h : Layout) (f : Found) (e : Element) → Ordered (length p - 0) (Read h) → Inside (length (block_of h p)) f → f ≡ At e
+pub inside-packet : (p : List ℕ) (h : Layout) (f : Found) (e : Element) → Ordered (length p - 0) (Ok h) → Inside (length (block_of h p)) f → f ≡ At e
     → h.block + e.begin + e.length ≤ length p
 inside-packet p h f e o i q =
     let n : length (drop h.block p) ≡ length p - h.block = length-drop h.block p in

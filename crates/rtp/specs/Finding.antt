@@ -1,12 +1,12 @@
 -- Document 01, "Finding an element": the part of a packet that is handed back, and the answer beside it.
-use Rattle.std.specs.Prelude.{◌≡◌, List, [], ◌∷◌, ℕ, ◌+◌, ◌≤◌, eqb, length, take, drop}
+use Rattle.rtp_header.specs.declared.header.Layout.{Layout}
+use Rattle.bits.specs.declared.refusal.Refusal.{Refusal}
+use Rattle.std.specs.Prelude.{◌≡◌, List, [], ◌∷◌, ℕ, ◌+◌, ◌≤◌, eqb, length, take, drop, Result, Ok, Err}
 use Rattle.std.specs.Borrow.{Bor}
 use Rattle.bits.specs.Pick.{pick}
 use Rattle.rtp_elements.specs.declared.element.Element.{Element}
 use Rattle.rtp_elements.specs.declared.element.Found.{Found}
 use Rattle.rtp_elements.specs.declared.element.Found.TheVariants.{At, Absent, Past}
-use Rattle.rtp_header.specs.declared.header.Header.{Header}
-use Rattle.rtp_header.specs.declared.header.Header.TheVariants.{Read, Refused}
 use Rattle.rtp_elements.specs.Elements.{whole_of, elements_of}
 use Rattle.rtp_elements.specs.Numbers.{found_number}
 use Rattle.rtp_header.specs.Header.{block_of, header_of, header_number}
@@ -36,9 +36,9 @@ part_of block (At e) = record { number = found_number (At e); begin = block + e.
 part_of block Absent = refused_part (found_number Absent)
 part_of block Past = refused_part (found_number Past)
 
-abbrev pub found_in : List ℕ → ℕ → Header → Part
-found_in p id (Refused r) = refused_part (header_number (Refused r))
-found_in p id (Read h) = part_of h.block (located_of h.tag (block_of h p) id)
+abbrev pub found_in : List ℕ → ℕ → Result Layout Refusal → Part
+found_in p id (Err r) = refused_part (header_number (Err r))
+found_in p id (Ok h) = part_of h.block (located_of h.tag (block_of h p) id)
 
 -- refusals 2, 3, 4, 6 and 19, in this order, of a plain packet
 unfoldable pub find_of : List ℕ → ℕ → Part

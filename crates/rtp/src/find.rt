@@ -4,7 +4,7 @@ ghost use Rattle.rtp.specs.Finding.{located_of, find_of, HandedBack};
 ghost use Rattle.rtp.specs.Steps.{Inside, kept_of};
 
 use rtp_elements::element::{Element, Found, found_number, next};
-use rtp_header::header::{Header, header_number, read_header};
+use rtp_header::header::{header_number, read_header};
 
 // The first match stays.
 fn kept(first: Found, element: Element, id: u8) -> Found
@@ -52,7 +52,7 @@ pub fn find<'a>(packet: &'a [u8], id: u8, answer: &mut u8) -> &'a [u8]
     ensures { HandedBack packet.entry (find_of packet.now id) answer.new result }
 {
     let header = read_header(packet, 0);
-    let Header::Read(layout) = header else {
+    let Ok(layout) = header else {
         *answer = header_number(header);
         return &packet[0..0];
     };

@@ -1,11 +1,10 @@
 -- RFC 3550, sections 5.1 and 5.3.1: where the parts of a packet begin, and whether its header can be read.
-use Rattle.std.specs.Prelude.{Bool, true, false, not, List, [], ◌∷◌, ℕ, ◌+◌, ◌-◌, ◌*◌, ◌/◌, ◌%◌, eqb, ltb, length, get_or, take, drop}
+use Rattle.bits.specs.declared.refusal.Refusal.{Refusal}
+use Rattle.std.specs.Prelude.{Bool, true, false, not, List, [], ◌∷◌, ℕ, ◌+◌, ◌-◌, ◌*◌, ◌/◌, ◌%◌, eqb, ltb, length, get_or, take, drop, Result, Ok, Err}
 use Rattle.bits.specs.BigEndian.{from_bytes}
 use Rattle.bits.specs.Pick.{pick}
 use Rattle.bits.specs.Refusals.{number_of}
 use Rattle.bits.specs.declared.refusal.Refusal.TheVariants as refusal
-use Rattle.rtp_header.specs.declared.header.Header.{Header}
-use Rattle.rtp_header.specs.declared.header.Header.TheVariants.{Read, Refused}
 use Rattle.rtp_header.specs.declared.header.Layout.{Layout}
 
 -- 5.1: V, X and CC of the first byte; P, between V and X, is not looked at
@@ -66,17 +65,17 @@ block_of h p = take (h.payload - h.block) (drop h.block p)
 
 -- The payload begins where contributing sources, extension header and block have ended, so one test tells whether any of them passes the end:
 -- where the extension header itself does, whatever length is read there.
-unfoldable pub bounded_of : List ℕ → ℕ → Header
-bounded_of p end = pick (ltb end (layout_of p).payload) (Refused refusal.Header) (Read (layout_of p))
+unfoldable pub bounded_of : List ℕ → ℕ → Result Layout Refusal
+bounded_of p end = pick (ltb end (layout_of p).payload) (Err refusal.Header) (Ok (layout_of p))
 
 -- document 01, refusals 2 to 4, of a packet whose last t bytes are its authentication tag (t = 0 on sending and finding): the header may not reach into it
-unfoldable pub header_of : List ℕ → ℕ → Header
+unfoldable pub header_of : List ℕ → ℕ → Result Layout Refusal
 header_of p t =
-    pick (ltb (length p) (12 + t)) (Refused refusal.Short)
-    (pick (not (eqb (version_of p) 2)) (Refused refusal.Version)
+    pick (ltb (length p) (12 + t)) (Err refusal.Short)
+    (pick (not (eqb (version_of p) 2)) (Err refusal.Version)
     (bounded_of p (length p - t)))
 
 -- the number of a reader's answer: 0 where the header was read
-abbrev pub header_number : Header → ℕ
-header_number (Read h) = 0
-header_number (Refused r) = number_of r
+abbrev pub header_number : Result Layout Refusal → ℕ
+header_number (Ok h) = 0
+header_number (Err r) = number_of r

@@ -18,15 +18,8 @@ pub struct Layout {
     pub payload: usize,
 }
 
-// The layout, or why the header cannot be read.
-#[derive(Clone, Copy)]
-pub enum Header {
-    Read(Layout),
-    Refused(Refusal),
-}
-
 // X = 1: the extension header stands at `at`, and neither it nor its block may pass `end`.
-fn read_extension(packet: &[u8], cc: usize, at: usize, end: usize) -> Header
+fn read_extension(packet: &[u8], cc: usize, at: usize, end: usize) -> Result<Layout, Refusal>
     requires packet_value { has_extension packet.now ≡ true }
     requires cc_value { (cc ≡ count_of packet.now) × ((at ≡ past_contributors packet.now) × (end ≤ length packet.now)) }
     ensures value { result ≡ bounded_of packet.now end }
@@ -34,15 +27,15 @@ fn read_extension(packet: &[u8], cc: usize, at: usize, end: usize) -> Header
 {
     let block = at + 4;
     if end < block {
-        return Header::Refused(Refusal::Header);
+        return Err(Refusal::Header);
     }
     let tag = read16([packet[at], packet[at + 1]]);
     let words = read16([packet[at + 2], packet[at + 3]]);
     let payload = block + 4 * (words as usize);
     if end < payload {
-        return Header::Refused(Refusal::Header);
+        return Err(Refusal::Header);
     }
-    Header::Read(Layout {
+    Ok(Layout {
         cc,
         x: true,
         tag,
@@ -55,21 +48,21 @@ fn read_extension(packet: &[u8], cc: usize, at: usize, end: usize) -> Header
 
 // The header of a packet whose last `t` bytes are its authentication tag (0 where it has none): the header may not reach into them.
 // The second `ensures` follows from the first; callers have it ready.
-pub fn read_header(packet: &[u8], t: usize) -> Header
+pub fn read_header(packet: &[u8], t: usize) -> Result<Layout, Refusal>
     ensures value { result ≡ header_of packet.now t }
     ensures ordered { Ordered (length packet.now - t) result }
 {
     let n = packet.len();
     if n < t {
-        return Header::Refused(Refusal::Short);
+        return Err(Refusal::Short);
     }
     let end = n - t;
     if end < 12 {
-        return Header::Refused(Refusal::Short);
+        return Err(Refusal::Short);
     }
     let first = packet[0];
     if first / 64 != 2 {
-        return Header::Refused(Refusal::Version);
+        return Err(Refusal::Version);
     }
     let cc = (first % 16) as usize;
     let at = 12 + 4 * cc;
@@ -77,9 +70,9 @@ pub fn read_header(packet: &[u8], t: usize) -> Header
         return read_extension(packet, cc, at, end);
     }
     if end < at {
-        return Header::Refused(Refusal::Header);
+        return Err(Refusal::Header);
     }
-    Header::Read(Layout {
+    Ok(Layout {
         cc,
         x: false,
         tag: 0,
@@ -91,11 +84,11 @@ pub fn read_header(packet: &[u8], t: usize) -> Header
 }
 
 // The number of a reader's answer: 0 where the header was read.
-pub fn header_number(header: Header) -> u8
+pub fn header_number(header: Result<Layout, Refusal>) -> u8
     ensures { result ≡ header_number header }
 {
     match header {
-        Header::Read(_) => 0,
-        Header::Refused(refusal) => number(refusal),
+        Ok(_) => 0,
+        Err(refusal) => number(refusal),
     }
 }

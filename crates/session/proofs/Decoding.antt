@@ -1,4 +1,5 @@
 -- What memory holds after a call: the session that the call's definition gives back.
+use Rattle.std.specs.Prelude.{Option, Some, None}
 use mathlib.Core.Path.{◌≡◌, refl, sym, ap, ◌∙◌}
 use mathlib.Core.Bool.{Bool, true, false}
 use mathlib.Core.List.{List}
@@ -20,8 +21,6 @@ use Rattle.replay.specs.State.{ReplayState}
 use Rattle.replay.specs.Track.{Blocks, state_words}
 use Rattle.replay.specs.Window.{blocks}
 use Rattle.replay.proofs.Tracks.{fresh-blocks, state-length}
-use Rattle.session.specs.declared.place.Place.{Place}
-use Rattle.session.specs.declared.place.Place.TheVariants.{At, Nowhere}
 use Rattle.session.specs.Session.{Record, Session}
 use Rattle.session.specs.Adding.{add_of}
 use Rattle.session.specs.Packets.{Effect, refuse, give, settled}
@@ -83,42 +82,42 @@ pub record Holds (l : Left) (s : Session) : Type 0 where
   pub session : decode l.words ≡ s
   pub long : length l.words ≡ size
 
-abbrev pub placed_by : List ℕ → Place → Effect → List ℕ
-placed_by words Nowhere e = words
-placed_by words (At i) (refuse r) = words
-placed_by words (At i) (give m after t) = with_replay_at words i t
+abbrev pub placed_by : List ℕ → Option ℕ → Effect → List ℕ
+placed_by words None e = words
+placed_by words (Some i) (refuse r) = words
+placed_by words (Some i) (give m after t) = with_replay_at words i t
 
-pub refused-there : (words : List ℕ) (p : Place) (r : Refusal) → placed_by words p (refuse r) ≡ words
-refused-there words Nowhere r = refl
-refused-there words (At i) r = refl
+pub refused-there : (words : List ℕ) (p : Option ℕ) (r : Refusal) → placed_by words p (refuse r) ≡ words
+refused-there words None r = refl
+refused-there words (Some i) r = refl
 
 module _ (words : List ℕ) (sized : length words ≡ size) (buf : List ℕ) (x : ℕ) (way : Way) where
-  pub found_in : (i : ℕ) → place_from 0 (decode words).records x way ≡ At i → i < 32
+  pub found_in : (i : ℕ) → place_from 0 (decode words).records x way ≡ Some i → i < 32
   found_in i e =
       let n : length (decode words).records ≡ 32 = ap (λ (s : Session). length s.records) (made words (placed-made words x way i e)) ∙ records-length words in
       omega (arith, (first-here (λ r. is_for r x way) (decode words).records i e).inside)
 
   -- the words after an effect: the replay state at the record's place
-  settled-words : (p : Place) → place_from 0 (decode words).records x way ≡ p → (e : Effect)
+  settled-words : (p : Option ℕ) → place_from 0 (decode words).records x way ≡ p → (e : Effect)
       → (settled_in words x way (settled (decode words) buf x way e)).words ≡ placed_by words p e
-  settled-words Nowhere h (refuse r) = rw (ne_eqb (number_of r) 0 (λ z. omega (arith, above_zero r)))
-  settled-words (At i) h (refuse r) = rw (ne_eqb (number_of r) 0 (λ z. omega (arith, above_zero r)))
-  settled-words Nowhere h (give m after t) = rw h
-  settled-words (At i) h (give m after t) = rw (h, stored_there (decode words).records x way i h t)
+  settled-words None h (refuse r) = rw (ne_eqb (number_of r) 0 (λ z. omega (arith, above_zero r)))
+  settled-words (Some i) h (refuse r) = rw (ne_eqb (number_of r) 0 (λ z. omega (arith, above_zero r)))
+  settled-words None h (give m after t) = rw h
+  settled-words (Some i) h (give m after t) = rw (h, stored_there (decode words).records x way i h t)
 
   settled-holds : (e : Effect) → EffectFits e → Holds (settled_in words x way (settled (decode words) buf x way e)) (settled (decode words) buf x way e).session
   settled-holds (refuse r) f = rw (ne_eqb (number_of r) 0 (λ z. omega (arith, above_zero r))) (record { session = refl; long = sized })
   settled-holds (give m after t) f = go (place_from 0 (decode words).records x way) refl
     where
-      go : (p : Place) → place_from 0 (decode words).records x way ≡ p
+      go : (p : Option ℕ) → place_from 0 (decode words).records x way ≡ p
           → Holds (settled_in words x way (settled (decode words) buf x way (give m after t))) (settled (decode words) buf x way (give m after t)).session
-      go Nowhere e =
+      go None e =
           rw e
           (record {
             session = sym (ap (λ (l : List Record). record { setup = (decode words).setup; records = l }) ((nowhere (λ r. is_for r x way) 0 (decode words).records e).changed (λ r. with_replay r t)));
             long = sized;
           })
-      go (At i) e =
+      go (Some i) e =
           let h = first-here (λ r. is_for r x way) (decode words).records i e in
           let q = found_in i e in
           let k = placed-made words x way i e in
@@ -160,10 +159,10 @@ module _ (words : List ℕ) (sized : length words ≡ size) (ssrc rollover : ℕ
       go true e = e
       go false e = apart (let z = ap (λ (s : Session). s.setup.made) (not_made words e) in cc)
 
-  placed-holds : (decode words).setup.made ≡ true → is_full (decode words).records ≡ false → (p : Place) → free_from 0 (decode words).records ≡ p
+  placed-holds : (decode words).setup.made ≡ true → is_full (decode words).records ≡ false → (p : Option ℕ) → free_from 0 (decode words).records ≡ p
       → Holds (without_buffer 0 (placed_at words (free_from 0 (decode words).records) new)) (record { setup = (decode words).setup; records = placed (decode words).records new })
-  placed-holds m f Nowhere e = apart (let z = full (decode words).records (nowhere free 0 (decode words).records e).found in cc)
-  placed-holds m f (At i) e =
+  placed-holds m f None e = apart (let z = full (decode words).records (nowhere free 0 (decode words).records e).found in cc)
+  placed-holds m f (Some i) e =
       let h = first-here free (decode words).records i e in
       let k = is-marked m in
       let n : length (decode words).records ≡ 32 = ap (λ (s : Session). length s.records) (made words k) ∙ records-length words in

@@ -1,4 +1,5 @@
 -- Which session memory holds: made or not, and what one word of each record tells.
+use Rattle.std.specs.Prelude.{Some, None}
 use mathlib.Core.Path.{◌≡◌, refl, sym, ap, ap₂, ◌∙◌}
 use mathlib.Core.Bool.{Bool, true, false, not, ◌&&◌}
 use mathlib.Core.List.{List}
@@ -15,7 +16,6 @@ use Rattle.policies.specs.declared.policy.Policy.TheVariants.{Plain}
 use Rattle.policies.specs.declared.policy.Way.{Way}
 use Rattle.policies.specs.declared.policy.Way.TheVariants.{Sending, Receiving}
 use Rattle.policies.proofs.Layouts.{apart}
-use Rattle.session.specs.declared.place.Place.TheVariants.{At, Nowhere}
 use Rattle.session.specs.Session.{Free, Sender, Receiver, Session}
 use Rattle.suites.specs.declared.suite.Suite.TheVariants.{CmHmac}
 use Rattle.session.specs.Making.{unmade, session_of}
@@ -130,15 +130,15 @@ free-kind n e = rw e (go (eqb n 2))
 
 -- ---- the unmade session
 
-free-nowhere : (n k x : ℕ) (w : Way) → place_from k (replicate n free_place) x w ≡ Nowhere
+free-nowhere : (n k x : ℕ) (w : Way) → place_from k (replicate n free_place) x w ≡ None
 free-nowhere zero k x w = refl
 free-nowhere (suc n) k x w = rw (other_way (eqb 0 x)) (free-nowhere n (suc k) x w)
 
-pub unmade-nowhere : (words : List ℕ) → is_mark (word words 0) ≡ false → (x : ℕ) (w : Way) → place_from 0 (decode words).records x w ≡ Nowhere
+pub unmade-nowhere : (words : List ℕ) → is_mark (word words 0) ≡ false → (x : ℕ) (w : Way) → place_from 0 (decode words).records x w ≡ None
 unmade-nowhere words e x w = rw (not_made words e) (free-nowhere 32 0 x w)
 
 -- a session with a record is made
-pub placed-made : (words : List ℕ) (x : ℕ) (w : Way) (i : ℕ) → place_from 0 (decode words).records x w ≡ At i → is_mark (word words 0) ≡ true
+pub placed-made : (words : List ℕ) (x : ℕ) (w : Way) (i : ℕ) → place_from 0 (decode words).records x w ≡ Some i → is_mark (word words 0) ≡ true
 placed-made words x w i e = go (is_mark (word words 0)) refl
   where
     go : (b : Bool) → is_mark (word words 0) ≡ b → is_mark (word words 0) ≡ true

@@ -1,4 +1,5 @@
 -- What code that scans the places and stores at one has done, said of the list of records.
+use Rattle.std.specs.Prelude.{Some, None}
 use mathlib.Core.Path.{◌≡◌, refl, ap, ◌∙◌}
 use mathlib.Core.Bool.{Bool, true, false, not, ◌&&◌, ◌||◌}
 use mathlib.Core.List.{List, [], ◌∷◌}
@@ -12,7 +13,6 @@ use Rattle.bits.specs.Pick.{pick}
 use Rattle.policies.specs.declared.policy.Way.{Way}
 use Rattle.policies.proofs.Layouts.{apart}
 use Rattle.replay.specs.State.{ReplayState}
-use Rattle.session.specs.declared.place.Place.TheVariants.{At, Nowhere}
 use Rattle.session.specs.Session.{Record}
 use Rattle.session.specs.Records.{is_free, is_for, none, some, first_in, change_first, with_replay, store_for, has_ssrc, is_full}
 use Rattle.session.specs.Places.{no_record, first_from, place_from}
@@ -20,16 +20,16 @@ use Rattle.session.specs.Places.{no_record, first_from, place_from}
 -- ---- one step of a scan
 
 module _ (test : Record → Bool) (l : List Record) (i : ℕ) where
-  first_step : i < length l → first_from test i (drop i l) ≡ pick (test (get_or l i no_record)) (At i) (first_from test (i + 1) (drop (i + 1) l))
+  first_step : i < length l → first_from test i (drop i l) ≡ pick (test (get_or l i no_record)) (Some i) (first_from test (i + 1) (drop (i + 1) l))
   first_step h = rw (drop-cons l i no_record, add-one)
 
-  pub first-hit : i < length l → test (get_or l i no_record) ≡ true → first_from test i (drop i l) ≡ At i
+  pub first-hit : i < length l → test (get_or l i no_record) ≡ true → first_from test i (drop i l) ≡ Some i
   first-hit h e = first_step h ∙ rw e
 
   pub first-miss : i < length l → test (get_or l i no_record) ≡ false → first_from test i (drop i l) ≡ first_from test (i + 1) (drop (i + 1) l)
   first-miss h e = first_step h ∙ rw e
 
-  pub first-over : length l ≤ i → first_from test i (drop i l) ≡ Nowhere
+  pub first-over : length l ≤ i → first_from test i (drop i l) ≡ None
   first-over h = rw drop_of_length-le
 
 module _ (l : List Record) (i : ℕ) where
@@ -60,8 +60,8 @@ module _ (test : Record → Bool) where
     found : first_in test l ≡ some (get_or l place no_record)
     changed : (f : Record → Record) → change_first test f l ≡ set l place (f (get_or l place no_record))
 
-  at-step : (k : ℕ) (q : Record) (l : List Record) (i : ℕ) (b : Bool) → test q ≡ b → (first_from test (suc k) l ≡ At i → FirstAt (suc k) l i)
-      → pick b (At k) (first_from test (suc k) l) ≡ At i → FirstAt k (q ∷ l) i
+  at-step : (k : ℕ) (q : Record) (l : List Record) (i : ℕ) (b : Bool) → test q ≡ b → (first_from test (suc k) l ≡ Some i → FirstAt (suc k) l i)
+      → pick b (Some k) (first_from test (suc k) l) ≡ Some i → FirstAt k (q ∷ l) i
   at-step k q l i true h rec e =
       let z : k ≡ i = cc in
       record { place = 0; counted = omega arith; inside = omega arith; passes = h; found = rw h; changed = λ f. rw h }
@@ -76,7 +76,7 @@ module _ (test : Record → Bool) where
         changed = λ f. rw h (ap (λ (r : List Record). q ∷ r) (p.changed f));
       }
 
-  first-at : (k : ℕ) (l : List Record) (i : ℕ) → first_from test k l ≡ At i → FirstAt k l i
+  first-at : (k : ℕ) (l : List Record) (i : ℕ) → first_from test k l ≡ Some i → FirstAt k l i
   first-at k [] i e = apart cc
   first-at k (q ∷ l) i e = at-step k q l i (test q) refl (first-at (suc k) l i) e
 
@@ -86,7 +86,7 @@ module _ (test : Record → Bool) where
     pub found : first_in test l ≡ some (get_or l i no_record)
     pub changed : (f : Record → Record) → change_first test f l ≡ set l i (f (get_or l i no_record))
 
-  pub first-here : (l : List Record) (i : ℕ) → first_from test 0 l ≡ At i → First l i
+  pub first-here : (l : List Record) (i : ℕ) → first_from test 0 l ≡ Some i → First l i
   first-here l i e =
       let p = first-at 0 l i e in
       let q : i ≡ p.place = omega (arith, p.counted) in
@@ -97,11 +97,11 @@ module _ (test : Record → Bool) where
     pub found : first_in test l ≡ none
     pub changed : (f : Record → Record) → change_first test f l ≡ l
 
-  pub nowhere : (k : ℕ) (l : List Record) → first_from test k l ≡ Nowhere → NoFirst l
+  pub nowhere : (k : ℕ) (l : List Record) → first_from test k l ≡ None → NoFirst l
   nowhere k [] e = record { found = refl; changed = λ f. refl }
   nowhere k (q ∷ l) e = go (test q) refl (nowhere (suc k) l) e
     where
-      go : (b : Bool) → test q ≡ b → (first_from test (suc k) l ≡ Nowhere → NoFirst l) → pick b (At k) (first_from test (suc k) l) ≡ Nowhere → NoFirst (q ∷ l)
+      go : (b : Bool) → test q ≡ b → (first_from test (suc k) l ≡ None → NoFirst l) → pick b (Some k) (first_from test (suc k) l) ≡ None → NoFirst (q ∷ l)
       go true h rec e = apart cc
       go false h rec e = let p = rec e in record { found = rw h p.found; changed = λ f. rw h (ap (λ (r : List Record). q ∷ r) (p.changed f)) }
 
@@ -118,7 +118,7 @@ place_kept x y w v t k (q ∷ l) = go (is_for q x w) (place_kept x y w v t (suc 
     go false rec = rw rec
 
 -- stored at its place, the replay state is read there
-pub stored_there : (l : List Record) (x : ℕ) (w : Way) (i : ℕ) → place_from 0 l x w ≡ At i → (t : ReplayState) → (get_or (store_for l x w t) i no_record).replay ≡ t
+pub stored_there : (l : List Record) (x : ℕ) (w : Way) (i : ℕ) → place_from 0 l x w ≡ Some i → (t : ReplayState) → (get_or (store_for l x w t) i no_record).replay ≡ t
 stored_there l x w i e t =
     let h = first-here (λ r. is_for r x w) l i e in
     ap (λ (k : List Record). (get_or k i no_record).replay) (h.changed (λ r. with_replay r t))

@@ -1,4 +1,6 @@
 -- A packet call for both ways at once: protect where the way is sending, unprotect where it is receiving.
+use Rattle.rtp_header.specs.declared.header.Layout.{Layout}
+use Rattle.std.specs.Prelude.{Result, Ok, Err}
 use mathlib.Core.Path.{◌≡◌, refl}
 use mathlib.Core.Bool.{Bool, true, false}
 use mathlib.Core.List.{List}
@@ -9,11 +11,7 @@ use Rattle.bits.specs.Pick.{pick}
 use Rattle.bits.specs.Refusals.{wrong_memory}
 use Rattle.bits.specs.declared.refusal.Refusal.{Refusal}
 use Rattle.bits.specs.declared.refusal.Refusal.TheVariants as refusal
-use Rattle.rtp_header.specs.declared.header.Header.{Header}
-use Rattle.rtp_header.specs.declared.header.Header.TheVariants.{Read, Refused}
 use Rattle.rtp_header.specs.Header.{seq_of, ssrc_of}
-use Rattle.replay.specs.declared.answer.Judged.{Judged}
-use Rattle.replay.specs.declared.answer.Judged.TheVariants.{Index, Refused as NoIndex}
 use Rattle.replay.specs.Receive.{receive_of}
 use Rattle.replay.specs.Send.{send_of}
 use Rattle.replay.specs.State.{ReplayState}
@@ -40,7 +38,7 @@ module _ (setup : Setup) (buf : List ℕ) (n : ℕ) where
   in_by Sending found = protect_in setup.suite setup.keys setup.policy (listed_by setup) buf n found
   in_by Receiving found = unprotect_in setup.suite setup.keys setup.policy (listed_by setup) buf n found
 
-  abbrev pub read_by : Way → Header → Found → Effect
+  abbrev pub read_by : Way → Result Layout Refusal → Found → Effect
   read_by Sending h found = protect_read setup.suite setup.keys setup.policy (listed_by setup) buf n h found
   read_by Receiving h found = unprotect_read setup.suite setup.keys setup.policy (listed_by setup) buf n h found
 
@@ -63,13 +61,13 @@ module _ (setup : Setup) (buf : List ℕ) (n : ℕ) where
     picked true d e p q = p
     picked false d e p q = q
 
-    sent-cases : (r : Record) (j : Judged) → OfGiven Sending r → P (protect_at setup.suite setup.keys setup.policy (listed_by setup) buf n j (state_by Sending r (seq_of (take n buf))))
-    sent-cases r (NoIndex q) p = refused q
-    sent-cases r (Index i) p = p _ _
+    sent-cases : (r : Record) (j : Result ℕ Refusal) → OfGiven Sending r → P (protect_at setup.suite setup.keys setup.policy (listed_by setup) buf n j (state_by Sending r (seq_of (take n buf))))
+    sent-cases r (Err q) p = refused q
+    sent-cases r (Ok i) p = p _ _
 
-    received-cases : (r : Record) (j : Judged) → OfGiven Receiving r → P (unprotect_at setup.suite setup.keys setup.policy (listed_by setup) buf n j (state_by Receiving r (seq_of (take n buf))))
-    received-cases r (NoIndex q) p = refused q
-    received-cases r (Index i) p = picked (tag_fits setup.suite setup.keys setup.policy (ssrc_of (take n buf)) i (take n buf)) _ (refuse refusal.Tag) (p _ _) (refused refusal.Tag)
+    received-cases : (r : Record) (j : Result ℕ Refusal) → OfGiven Receiving r → P (unprotect_at setup.suite setup.keys setup.policy (listed_by setup) buf n j (state_by Receiving r (seq_of (take n buf))))
+    received-cases r (Err q) p = refused q
+    received-cases r (Ok i) p = picked (tag_fits setup.suite setup.keys setup.policy (ssrc_of (take n buf)) i (take n buf)) _ (refuse refusal.Tag) (p _ _) (refused refusal.Tag)
 
     in-cases : (way : Way) (found : Found) → ((r : Record) → found ≡ some r → OfGiven way r) → P (in_by way found)
     in-cases Sending none p = refused refusal.Stream
@@ -77,15 +75,15 @@ module _ (setup : Setup) (buf : List ℕ) (n : ℕ) where
     in-cases Sending (some r) p = sent-cases r (send_of r.replay r.rollover (seq_of (take n buf))).judged (p r refl)
     in-cases Receiving (some r) p = received-cases r (receive_of blocks width r.replay r.rollover (seq_of (take n buf))).judged (p r refl)
 
-    read-cases : (way : Way) (h : Header) (found : Found) → P (in_by way found) → P (read_by way h found)
-    read-cases Sending (Refused r) found p = refused r
-    read-cases Receiving (Refused r) found p = refused r
-    read-cases Sending (Read l) found p = picked (ltb (length buf) (wire_length setup.suite setup.policy buf n)) (refuse refusal.Room) (in_by Sending found) (refused refusal.Room) p
-    read-cases Receiving (Read l) found p = p
+    read-cases : (way : Way) (h : Result Layout Refusal) (found : Found) → P (in_by way found) → P (read_by way h found)
+    read-cases Sending (Err r) found p = refused r
+    read-cases Receiving (Err r) found p = refused r
+    read-cases Sending (Ok l) found p = picked (ltb (length buf) (wire_length setup.suite setup.policy buf n)) (refuse refusal.Room) (in_by Sending found) (refused refusal.Room) p
+    read-cases Receiving (Ok l) found p = p
 
     pub effect-cases : (way : Way) (found : Found) → ((r : Record) → found ≡ some r → OfGiven way r) → P (effect_by way found)
     effect-cases way found p =
-        let j : Header = judged_of way setup.policy (tag_length_of setup.suite) (take n buf) in
+        let j : Result Layout Refusal = judged_of way setup.policy (tag_length_of setup.suite) (take n buf) in
         rw (effect_is way found)
         (picked (ltb (length buf) n) (refuse refusal.Length) (read_by way j found) (refused refusal.Length) (read-cases way j found (in-cases way found p)))
 

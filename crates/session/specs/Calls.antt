@@ -1,5 +1,5 @@
 -- The calls on lent memory: what each gives back, and what it leaves of the session's memory and of the buffer.
-use Rattle.std.specs.Prelude.{◌≡◌, List, [], ℕ, ◌+◌, eqb, ltb, length, get_or, take}
+use Rattle.std.specs.Prelude.{◌≡◌, List, [], ℕ, ◌+◌, eqb, ltb, length, get_or, take, Option, Some, None}
 use Rattle.bits.specs.Pick.{pick}
 use Rattle.bits.specs.Refusals.{wrong_memory, wrong_way, wrong_suite}
 use Rattle.suites.specs.Suites.{suite_of}
@@ -9,8 +9,6 @@ use Rattle.policies.specs.declared.policy.Way.{Way}
 use Rattle.policies.specs.declared.policy.Way.TheVariants.{Sending, Receiving}
 use Rattle.replay.specs.State.{ReplayState}
 use Rattle.replay.specs.Track.{state_words}
-use Rattle.session.specs.declared.place.Place.{Place}
-use Rattle.session.specs.declared.place.Place.TheVariants.{At, Nowhere}
 use Rattle.session.specs.Session.{Made, Record}
 use Rattle.session.specs.Making.{make_of}
 use Rattle.session.specs.Adding.{add_of}
@@ -68,9 +66,9 @@ make_call words key salt policy ids suite =
 
 -- ---- add
 
-abbrev pub placed_at : List ℕ → Place → Record → List ℕ
-placed_at words Nowhere r = words
-placed_at words (At i) r = with_record_at words i r
+abbrev pub placed_at : List ℕ → Option ℕ → Record → List ℕ
+placed_at words None r = words
+placed_at words (Some i) r = with_record_at words i r
 
 -- With a result the new record is in the first free place, and nothing else changes.
 abbrev pub added_in : List ℕ → Record → Made → Left
@@ -86,9 +84,9 @@ add_call words ssrc way rollover =
 
 -- ---- protect and unprotect
 
-abbrev pub stored_at : List ℕ → Place → List Record → List ℕ
-stored_at words Nowhere records = words
-stored_at words (At i) records = with_replay_at words i (get_or records i no_record).replay
+abbrev pub stored_at : List ℕ → Option ℕ → List Record → List ℕ
+stored_at words None records = words
+stored_at words (Some i) records = with_replay_at words i (get_or records i no_record).replay
 
 -- With a result the stream's record has the replay state of the session afterwards, and nothing else changes.
 abbrev pub settled_in : List ℕ → ℕ → Way → Outcome → Left

@@ -1,15 +1,12 @@
 -- Document 01, "Numbers given back", 1 to 14, with document 02, CR 3: protect and unprotect in a buffer whose first n bytes are the packet.
-use Rattle.std.specs.Prelude.{Bool, List, ◌++◌, ℕ, ◌+◌, ◌-◌, ltb, length, take, drop}
+use Rattle.rtp_header.specs.declared.header.Layout.{Layout}
+use Rattle.std.specs.Prelude.{Bool, List, ◌++◌, ℕ, ◌+◌, ◌-◌, ltb, length, take, drop, Result, Ok, Err}
 use Rattle.bits.specs.Pick.{pick}
 use Rattle.bits.specs.Refusals.{number_of}
 use Rattle.bits.specs.declared.refusal.Refusal.{Refusal}
 use Rattle.bits.specs.declared.refusal.Refusal.TheVariants as refusal
-use Rattle.rtp_header.specs.declared.header.Header.{Header}
-use Rattle.rtp_header.specs.declared.header.Header.TheVariants.{Read, Refused}
 use Rattle.rtp_header.specs.Header.{seq_of, ssrc_of, layout_of}
 use Rattle.rtp_elements.specs.Mask.{listed_in}
-use Rattle.replay.specs.declared.answer.Judged.{Judged}
-use Rattle.replay.specs.declared.answer.Judged.TheVariants.{Index, Refused as NoIndex}
 use Rattle.replay.specs.State.{ReplayState}
 use Rattle.replay.specs.Receive.{receive_of}
 use Rattle.replay.specs.Send.{send_of}
@@ -42,9 +39,9 @@ module _ (suite : Suite) (keys : Keys) (policy : Policy) (listed : ℕ → Bool)
   -- ---- protect
 
   -- ORDER and WORN; then the wire bytes, and what follows them in the buffer stays
-  abbrev pub protect_at : Judged → ReplayState → Effect
-  protect_at (NoIndex r) state = refuse r
-  protect_at (Index i) state =
+  abbrev pub protect_at : Result ℕ Refusal → ReplayState → Effect
+  protect_at (Err r) state = refuse r
+  protect_at (Ok i) state =
       give (wire_length suite policy buf n)
       (wire_of suite keys policy listed (ssrc_of (take n buf)) i (take n buf) ++ drop (wire_length suite policy buf n) buf)
       state
@@ -56,9 +53,9 @@ module _ (suite : Suite) (keys : Keys) (policy : Policy) (listed : ℕ → Bool)
       protect_at (send_of r.replay r.rollover (seq_of (take n buf))).judged (send_of r.replay r.rollover (seq_of (take n buf))).state
 
   -- SHORT to LARGE, then ROOM
-  abbrev pub protect_read : Header → Found → Effect
-  protect_read (Refused r) found = refuse r
-  protect_read (Read h) found = pick (ltb (length buf) (wire_length suite policy buf n)) (refuse refusal.Room) (protect_in found)
+  abbrev pub protect_read : Result Layout Refusal → Found → Effect
+  protect_read (Err r) found = refuse r
+  protect_read (Ok h) found = pick (ltb (length buf) (wire_length suite policy buf n)) (refuse refusal.Room) (protect_in found)
 
   -- LENGTH
   unfoldable pub protect_effect : Found → Effect
@@ -69,9 +66,9 @@ module _ (suite : Suite) (keys : Keys) (policy : Policy) (listed : ℕ → Bool)
   -- ---- unprotect
 
   -- WORN, OLD and REPEAT; then TAG; then the packet that is given back, and what follows it in the buffer, the tag too, stays
-  abbrev pub unprotect_at : Judged → ReplayState → Effect
-  unprotect_at (NoIndex r) state = refuse r
-  unprotect_at (Index i) state =
+  abbrev pub unprotect_at : Result ℕ Refusal → ReplayState → Effect
+  unprotect_at (Err r) state = refuse r
+  unprotect_at (Ok i) state =
       pick (tag_fits suite keys policy (ssrc_of (take n buf)) i (take n buf))
       (give (n - tag_length_of suite)
       (restore_of suite keys policy listed (ssrc_of (take n buf)) i (take n buf) ++ drop (n - tag_length_of suite) buf)
@@ -86,9 +83,9 @@ module _ (suite : Suite) (keys : Keys) (policy : Policy) (listed : ℕ → Bool)
       (receive_of blocks width r.replay r.rollover (seq_of (take n buf))).state
 
   -- SHORT to LARGE
-  abbrev pub unprotect_read : Header → Found → Effect
-  unprotect_read (Refused r) found = refuse r
-  unprotect_read (Read h) found = unprotect_in found
+  abbrev pub unprotect_read : Result Layout Refusal → Found → Effect
+  unprotect_read (Err r) found = refuse r
+  unprotect_read (Ok h) found = unprotect_in found
 
   -- LENGTH
   unfoldable pub unprotect_effect : Found → Effect

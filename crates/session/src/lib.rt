@@ -6,4 +6,3 @@ pub mod answer;
 pub mod claims;
 pub mod layout;
 pub mod load;
-pub mod place;

@@ -1,4 +1,5 @@
 -- What the front of a packet call found decides the call: for both ways at once.
+use Rattle.std.specs.Prelude.{Option, Some, None, Result, Ok, Err}
 use mathlib.Core.Path.{◌≡◌, refl, sym, ap, ap₂, ◌∙◌}
 use mathlib.Core.Bool.{Bool, true, false}
 use mathlib.Core.List.{List}
@@ -13,19 +14,13 @@ use Rattle.bits.specs.declared.refusal.Refusal.{Refusal}
 use Rattle.bits.specs.declared.refusal.Refusal.TheVariants as refusal
 use Rattle.bits.proofs.Refusals.{above_zero}
 use Rattle.memory.specs.Words.{word}
-use Rattle.rtp_header.specs.declared.header.Header.{Header}
-use Rattle.rtp_header.specs.declared.header.Header.TheVariants.{Read, Refused}
 use Rattle.rtp_header.specs.declared.header.Layout.{Layout}
 use Rattle.rtp_header.specs.Header.{seq_of, ssrc_of}
-use Rattle.replay.specs.declared.answer.Judged.{Judged}
-use Rattle.replay.specs.declared.answer.Judged.TheVariants.{Index, Refused as NoIndex}
 use Rattle.policies.specs.declared.policy.Policy.{Policy}
 use Rattle.policies.specs.declared.policy.Way.{Way}
 use Rattle.policies.specs.declared.policy.Way.TheVariants.{Sending, Receiving}
 use Rattle.policies.specs.Judging.{added_of, judged_of}
 use Rattle.session.specs.declared.answer.Answer.{Answer as Given}
-use Rattle.session.specs.declared.place.Place.{Place}
-use Rattle.session.specs.declared.place.Place.TheVariants.{At, Nowhere}
 use Rattle.session.specs.Calls.{Left, refused_with, Gives, settled_in}
 use Rattle.suites.specs.declared.suite.Suite.{Suite}
 use Rattle.suites.specs.Suites.{tag_length_of}
@@ -63,7 +58,7 @@ module _ (words buf : List ℕ) (n : ℕ) where
 
   -- ---- the record at place i
 
-  module _ (way : Way) (i : ℕ) (here : place_from 0 s.records x way ≡ At i) where
+  module _ (way : Way) (i : ℕ) (here : place_from 0 s.records x way ≡ Some i) where
     its-left : (e : Effect) → settled_by way e ≡ left_by words i buf e
     its-left (refuse r) = refused-left way r
     its-left (give m after t) = rw (here, stored_there s.records x way i here t)
@@ -77,39 +72,39 @@ module _ (words buf : List ℕ) (n : ℕ) where
 
   -- ---- what the front answered
 
-  abbrev ended : Way → ℕ → ℕ → Header → Left
-  ended way number i (Refused r) = refused_with number words buf
-  ended way number i (Read h) = left_by words i buf (effect_at way words i buf n)
+  abbrev ended : Way → ℕ → ℕ → Result Layout Refusal → Left
+  ended way number i (Err r) = refused_with number words buf
+  ended way number i (Ok h) = left_by words i buf (effect_at way words i buf n)
 
   abbrev ended_by : Way → Opened → Left
   ended_by way o = ended way o.number o.place o.header
 
   -- ORDER, WORN, OLD, REPEAT
-  index-left : (way : Way) (h : Layout) (i : ℕ) (j : Judged) → judged_by way (record_in words i) (seq_of (take n buf)) ≡ j
+  index-left : (way : Way) (h : Layout) (i : ℕ) (j : Result ℕ Refusal) → judged_by way (record_in words i) (seq_of (take n buf)) ≡ j
       → left_by words i buf (effect_at way words i buf n) ≡ ended_by way (open_index way words (take n buf) h i j)
-  index-left way h i (NoIndex r) e = ap (left_by words i buf) (not_taken words i buf n way r e)
-  index-left way h i (Index k) e = refl
+  index-left way h i (Err r) e = ap (left_by words i buf) (not_taken words i buf n way r e)
+  index-left way h i (Ok k) e = refl
 
   -- STREAM
-  placed-left : (way : Way) (h : Layout) (p : Place) → place_from 0 s.records x way ≡ p
+  placed-left : (way : Way) (h : Layout) (p : Option ℕ) → place_from 0 s.records x way ≡ p
       → settled_by way (in_by s.setup buf n way (record_for s.records x way)) ≡ ended_by way (open_at way words (take n buf) h p)
-  placed-left way h Nowhere e = rw (nowhere (λ r. is_for r x way) 0 s.records e).found (ap (settled_by way) (no_stream way) ∙ refused-left way refusal.Stream)
-  placed-left way h (At i) e =
+  placed-left way h None e = rw (nowhere (λ r. is_for r x way) 0 s.records e).found (ap (settled_by way) (no_stream way) ∙ refused-left way refusal.Stream)
+  placed-left way h (Some i) e =
       rw (first-here (λ r. is_for r x way) s.records i e).found
       (its-left way i e (in_by s.setup buf n way (some (get_or s.records i no_record))) ∙ ap (left_by words i buf) (its-effect way i e)
       ∙ index-left way h i (judged_by way (record_in words i) (seq_of (take n buf))) refl)
 
   -- SHORT to LARGE, then ROOM
   module _ (inside : n ≤ length buf) where
-    read_left : (way : Way) (j : Header) → judged_of way (policy_at (word words 0)) (tag_length_of (suite_at (word words 0))) (take n buf) ≡ j
+    read_left : (way : Way) (j : Result Layout Refusal) → judged_of way (policy_at (word words 0)) (tag_length_of (suite_at (word words 0))) (take n buf) ≡ j
         → settled_by way (read_by s.setup buf n way j (record_for s.records x way)) ≡ ended_by way (open_read way words buf n j)
-    read_left Sending (Refused r) e = refused-left Sending r
-    read_left Receiving (Refused r) e = refused-left Receiving r
-    read_left Receiving (Read h) e =
+    read_left Sending (Err r) e = refused-left Sending r
+    read_left Receiving (Err r) e = refused-left Receiving r
+    read_left Receiving (Ok h) e =
         let z : ltb (length buf) (n + 0) ≡ false = le-ltb (length buf) (n + 0) (omega arith) in
         placed-left Receiving h (place_from 0 s.records x Receiving) refl
         ∙ sym (ap (λ (b : Bool). ended_by Receiving (pick b (shut refusal.Room) (open_at Receiving words (take n buf) h (place_from 0 s.records x Receiving)))) z)
-    read_left Sending (Read h) e =
+    read_left Sending (Ok h) e =
         let l : wire_length s.setup.suite s.setup.policy buf n ≡ n + added_of Sending (policy_at (word words 0)) (tag_length_of (suite_at (word words 0))) h =
         ap₂ (λ (q : Suite) (p : Policy). wire_length q p buf n) (sym (suite-is words)) (sym (policy-is words)) ∙ wire-length (suite_at (word words 0)) (policy_at (word words 0)) buf n h e in
         rw l (go (ltb (length buf) (n + added_of Sending (policy_at (word words 0)) (tag_length_of (suite_at (word words 0))) h)))
@@ -127,7 +122,7 @@ module _ (words buf : List ℕ) (n : ℕ) where
       ≡ ended_by way (pick (ltb (length buf) n) (shut refusal.Length) (open_read way words buf n (judged_of way (policy_at (word words 0)) (tag_length_of (suite_at (word words 0))) (take n buf))))
   length-left way = go (ltb (length buf) n) refl
     where
-      j : Header
+      j : Result Layout Refusal
       j = judged_of way (policy_at (word words 0)) (tag_length_of (suite_at (word words 0))) (take n buf)
 
       go : (b : Bool) → ltb (length buf) n ≡ b → settled_by way (pick b (refuse refusal.Length) (read_by s.setup buf n way j (record_for s.records x way)))
@@ -158,9 +153,9 @@ module _ (words buf : List ℕ) (n : ℕ) where
     ended_so : call_by way words buf n ≡ ended_by way o
     ended_so = fronted way ∙ ap (ended_by way) (sym opens)
 
-    pub refused-gives : (r : Refusal) → o.header ≡ Refused r → Gives (call_by way words buf n) (record { number = o.number; length = 0 }) buf words
+    pub refused-gives : (r : Refusal) → o.header ≡ Err r → Gives (call_by way words buf n) (record { number = o.number; length = 0 }) buf words
     refused-gives r e = rw (ended_so, e) (record { answer = refl; buffer = refl; words = refl })
 
-    pub stepped-gives : (h : Layout) → o.header ≡ Read h → (r : Given) (after memory : List ℕ)
+    pub stepped-gives : (h : Layout) → o.header ≡ Ok h → (r : Given) (after memory : List ℕ)
         → Gives (left_by words o.place buf (effect_at way words o.place buf n)) r after memory → Gives (call_by way words buf n) r after memory
     stepped-gives h e r after memory g = rw (ended_so, e) g

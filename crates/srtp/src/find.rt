@@ -4,7 +4,7 @@ ghost use Rattle.srtp.specs.Finding.{find_call, asked_id};
 
 use rtp::find::locate;
 use rtp_elements::element::{Found, found_number};
-use rtp_header::header::{Header, header_number, read_header};
+use rtp_header::header::{header_number, read_header};
 
 // 0 or the number of a refusal; where in the packet the element's data begins, and how long it is: 0 and 0 with a refusal.
 #[repr(C)]
@@ -40,7 +40,7 @@ pub fn find(packet: &[u8], id: u32) -> Part
     ensures { result ≡ find_call packet.now id }
 {
     let header = read_header(packet, 0);
-    let Header::Read(layout) = header else {
+    let Ok(layout) = header else {
         return no_part(header_number(header));
     };
     let block = layout.block;

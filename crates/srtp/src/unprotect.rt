@@ -3,7 +3,6 @@ ghost use Rattle.session.specs.Calls.{Gives, unprotect_call};
 
 use front::open::{open, unopened};
 use policies::policy::Way;
-use rtp_header::header::Header;
 use session::answer::Answer;
 use streams::stream::unprotect_stream;
 
@@ -14,7 +13,7 @@ pub fn unprotect(session: &mut [u64], buf: &mut [u8], n: usize) -> Answer
 {
     let opened = open(session, buf, n, Way::Receiving);
     let header = opened.header;
-    let Header::Read(h) = header else {
+    let Ok(h) = header else {
         return unopened(opened);
     };
     unprotect_stream(session, opened.place, opened.index, buf, n, h)

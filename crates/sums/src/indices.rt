@@ -5,7 +5,7 @@ use replay::receive::{accept, receive};
 use replay::send;
 use std::io;
 
-fn put(rt: &impl Print, judged: Judged) -> io::Result<()> {
+fn put(rt: &impl Print, judged: Result<u64, Refusal>) -> io::Result<()> {
     let told = tell(judged);
     outcome::one(rt, told.number as u32, b"index ", told.index)
 }

@@ -1,4 +1,7 @@
 -- Demand 1: one answer, and a refusal changes nothing.
+use Rattle.rtp_header.specs.declared.header.Layout.{Layout}
+use Rattle.bits.specs.declared.refusal.Refusal.{Refusal}
+use Rattle.std.specs.Prelude.{Result, Ok, Err}
 use mathlib.Core.Path.{◌≡◌, refl}
 use mathlib.Core.Bool.{true}
 use mathlib.Core.List.{List, [], ◌∷◌}
@@ -9,8 +12,6 @@ use Rattle.bits.specs.Refusals.{number_of}
 use Rattle.rtp_elements.specs.Mask.{among}
 use Rattle.rtp_elements.specs.declared.element.Found.{Found as Located}
 use Rattle.rtp_elements.specs.declared.element.Found.TheVariants.{At, Absent as NotThere, Past}
-use Rattle.rtp_header.specs.declared.header.Header.{Header}
-use Rattle.rtp_header.specs.declared.header.Header.TheVariants.{Read, Refused}
 use Rattle.rtp.specs.Finding.{located_of, Part, part_of, found_in, find_of}
 use Rattle.rtp_header.specs.Header.{block_of, header_of, ssrc_of}
 use Rattle.policies.specs.declared.policy.Way.{Way}
@@ -94,9 +95,9 @@ part-finds block (At e) = record { number = refl; none = λ z. absurd (z refl) }
 part-finds block NotThere = record { number = refl; none = λ z. refl }
 part-finds block Past = record { number = refl; none = λ z. refl }
 
-in-finds : (p : List ℕ) (id : ℕ) (h : Header) → HeaderIn (2 ∷ 3 ∷ 4 ∷ []) h → Finds (found_in p id h)
-in-finds p id (Refused r) e = record { number = widen (2 ∷ 3 ∷ 4 ∷ []) (0 ∷ 2 ∷ 3 ∷ 4 ∷ 6 ∷ 19 ∷ []) refl (number_of r) e; none = λ z. refl }
-in-finds p id (Read h) e = part-finds h.block (located_of h.tag (block_of h p) id)
+in-finds : (p : List ℕ) (id : ℕ) (h : Result Layout Refusal) → HeaderIn (2 ∷ 3 ∷ 4 ∷ []) h → Finds (found_in p id h)
+in-finds p id (Err r) e = record { number = widen (2 ∷ 3 ∷ 4 ∷ []) (0 ∷ 2 ∷ 3 ∷ 4 ∷ 6 ∷ 19 ∷ []) refl (number_of r) e; none = λ z. refl }
+in-finds p id (Ok h) e = part-finds h.block (located_of h.tag (block_of h p) id)
 
 finds : (p : List ℕ) (id : ℕ) → Finds (find_of p id)
 unfolding find_of

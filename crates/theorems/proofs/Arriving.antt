@@ -1,4 +1,5 @@
 -- Each arrival of a stream is given back right or refused, as the ledger says.
+use Rattle.std.specs.Prelude.{Result, Ok, Err}
 use mathlib.Core.Path.{◌≡◌, refl, ap, ap₂, ◌∙◌, sym, subst}
 use mathlib.Core.Bool.{Bool, true, false}
 use mathlib.Core.List.{List, [], ◌∷◌, ◌++◌}
@@ -13,10 +14,7 @@ use Rattle.bits.specs.Pick.{pick}
 use Rattle.bits.specs.declared.refusal.Refusal.{Refusal}
 use Rattle.bits.proofs.Refusals.{above_zero}
 use Rattle.bits.specs.Lists.{Each}
-use Rattle.rtp_header.specs.declared.header.Header.TheVariants.{Read}
 use Rattle.rtp_header.specs.Header.{layout_of, seq_of, ssrc_of}
-use Rattle.replay.specs.declared.answer.Judged.{Judged}
-use Rattle.replay.specs.declared.answer.Judged.TheVariants.{Index, Refused as NoIndex}
 use Rattle.replay.specs.declared.answer.Told.{Told}
 use Rattle.replay.specs.Receive.{Received, receive_of}
 use Rattle.replay.specs.State.{ReplayState, after_of}
@@ -72,7 +70,7 @@ enter-index W (k ∷ l) i e = entered (leb (i + W) (highest_of (k ∷ l))) (hold
 
 -- ---- a refusal leaves the state
 
-stays : (s : ReplayState) (rollover seq : ℕ) (r : Refusal) → (receive_of blocks width s rollover seq).judged ≡ NoIndex r
+stays : (s : ReplayState) (rollover seq : ℕ) (r : Refusal) → (receive_of blocks width s rollover seq).judged ≡ Err r
     → (receive_of blocks width s rollover seq).state ≡ s
 unfolding receive_of
 stays s rollover seq r e = ap (after_of blocks s) e
@@ -80,9 +78,9 @@ stays s rollover seq r e = ap (after_of blocks s) e
 -- ---- a sent packet unprotected
 
 -- by the judgement of its index
-abbrev verdict : Judged → ReplayState → ℕ → List ℕ → Effect
-verdict (NoIndex r) t m b = refuse r
-verdict (Index i) t m b = give m b t
+abbrev verdict : Result ℕ Refusal → ReplayState → ℕ → List ℕ → Effect
+verdict (Err r) t m b = refuse r
+verdict (Ok i) t m b = give m b t
 
 module _ (h : Setup) (x : ℕ) (s : Sent) (g : Good h x s) (buf : List ℕ) (n : ℕ) (size : n ≡ length s.wire) (starts : take n buf ≡ s.wire) where
   abbrev wire : List ℕ
@@ -117,7 +115,7 @@ module _ (h : Setup) (x : ℕ) (s : Sent) (g : Good h x s) (buf : List ℕ) (n :
   inside : n ≤ length buf
   inside = let e : min n (length buf) ≡ n = sym (length-take n buf) ∙ ap length begins ∙ sym long in omega arith
 
-  read : judged_of Receiving h.policy (tag_length_of h.suite) (take n buf) ≡ Read (layout_of (take n buf))
+  read : judged_of Receiving h.policy (tag_length_of h.suite) (take n buf) ≡ Ok (layout_of (take n buf))
   read = judged Receiving h.policy (tag_length_of h.suite) (take n buf) (passed Receiving h.policy (tag_length_of h.suite) (take n buf) (rw begins back.accepted))
 
   fits : tag_fits h.suite h.keys h.policy (ssrc_of (take n buf)) s.index (take n buf) ≡ true
@@ -126,13 +124,13 @@ module _ (h : Setup) (x : ℕ) (s : Sent) (g : Good h x s) (buf : List ℕ) (n :
   restored : restore_of h.suite h.keys h.policy (listed_by h) (ssrc_of (take n buf)) s.index (take n buf) ≡ shown
   restored = rw (same-ssrc, begins) back.restored
 
-  at-index : (j : Judged) (t : ReplayState) → ((i : ℕ) → j ≡ Index i → i ≡ s.index)
+  at-index : (j : Result ℕ Refusal) (t : ReplayState) → ((i : ℕ) → j ≡ Ok i → i ≡ s.index)
       → unprotect_at h.suite h.keys h.policy (listed_by h) buf n j t ≡ verdict j t (n - tag_length_of h.suite) (shown ++ drop (n - tag_length_of h.suite) buf)
-  at-index (NoIndex r) t e = refl
-  at-index (Index i) t e = rw (e i refl, fits, restored)
+  at-index (Err r) t e = refl
+  at-index (Ok i) t e = rw (e i refl, fits, restored)
 
   pub unprotected : (r : Record) (o : Received) → receive_of blocks width r.replay r.rollover (low_of s.index) ≡ o
-      → ((i : ℕ) → o.judged ≡ Index i → i ≡ s.index)
+      → ((i : ℕ) → o.judged ≡ Ok i → i ≡ s.index)
       → unprotect_effect h.suite h.keys h.policy (listed_by h) buf n (some r) ≡ verdict o.judged o.state (n - tag_length_of h.suite) (shown ++ drop (n - tag_length_of h.suite) buf)
   unfolding unprotect_effect
   unprotected r o e f = rw (le-ltb (length buf) n inside, read, same-seq, e) (at-index o.judged o.state f)
@@ -213,9 +211,9 @@ module _ (h : Setup) (x rollover : ℕ) (large : rollover < 2 ^ 32) (sent : List
             rw o.start
             (received-by-ledger blocks width room o.rec.replay rollover held pkt.index o.remembers good.small (near-right rollover held pkt.index near))
 
-        same_index : (i : ℕ) → got.judged ≡ Index i → i ≡ pkt.index
+        same_index : (i : ℕ) → got.judged ≡ Ok i → i ≡ pkt.index
         same_index i e =
-            let t : told_of (Index i) ≡ (enter width held pkt.index).told = ap told_of (sym e) ∙ agrees.told in
+            let t : told_of (Ok i) ≡ (enter width held pkt.index).told = ap told_of (sym e) ∙ agrees.told in
             ap (λ (u : Told). u.index) t ∙ enter-index width held pkt.index (sym (ap (λ (u : Told). u.number) t))
 
         effect_is : done_by Receiving s buf n ≡ verdict got.judged got.state (n - tag_length_of h.suite) (given_back_of h.policy pkt.packet ++ drop (n - tag_length_of h.suite) buf)
@@ -228,16 +226,16 @@ module _ (h : Setup) (x rollover : ℕ) (large : rollover < 2 ^ 32) (sent : List
           right : (outcome d).answer.number ≡ 0 → Right h.policy pkt.packet (outcome d).answer
           follows : Follows (enter width held pkt.index).held (outcome d).session
 
-        settles : (j : Judged) → got.judged ≡ j
+        settles : (j : Result ℕ Refusal) → got.judged ≡ j
             → Settles (verdict j got.state (n - tag_length_of h.suite) (given_back_of h.policy pkt.packet ++ drop (n - tag_length_of h.suite) buf))
-        settles (NoIndex r) e =
+        settles (Err r) e =
             let kept : got.state ≡ o.rec.replay = stays o.rec.replay o.rec.rollover (low_of pkt.index) r e in
             record {
               number = ap (λ (u : Told). u.number) (ap told_of (sym e) ∙ agrees.told);
               right = λ z. absurd (omega (arith, above_zero r));
               follows = record { rec = o.rec; holds = o.holds; start = o.start; remembers = rw kept at agrees.remembers };
             }
-        settles (Index i) e =
+        settles (Ok i) e =
             record {
               number = ap (λ (u : Told). u.number) (ap told_of (sym e) ∙ agrees.told);
               right = λ z. right h x pkt good buf n size starts;

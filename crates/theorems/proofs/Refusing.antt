@@ -1,4 +1,5 @@
 -- Which numbers a call gives back, and which of them it gives without looking at the record.
+use Rattle.std.specs.Prelude.{Result, Ok, Err}
 use mathlib.Core.Path.{◌≡◌, refl, ◌∙◌}
 use mathlib.Core.Bool.{Bool, true, false, not, ◌&&◌, ◌||◌}
 use mathlib.Core.List.{List, [], ◌∷◌}
@@ -11,13 +12,9 @@ use Rattle.bits.specs.Pick.{pick}
 use Rattle.bits.specs.Refusals.{number_of}
 use Rattle.bits.specs.declared.refusal.Refusal.{Refusal}
 use Rattle.bits.specs.declared.refusal.Refusal.TheVariants.{Length, Short, Version, Header as NoHeader, Profile, Element, Large, Room, Order, Worn, Old, Repeat, Tag}
-use Rattle.rtp_header.specs.declared.header.Header.{Header}
-use Rattle.rtp_header.specs.declared.header.Header.TheVariants.{Read, Refused}
 use Rattle.rtp_header.specs.declared.header.Layout.{Layout}
 use Rattle.rtp_header.specs.Header.{version_of, layout_of, bounded_of, header_of, seq_of, ssrc_of}
 use Rattle.rtp_elements.specs.Mask.{among}
-use Rattle.replay.specs.declared.answer.Judged.{Judged}
-use Rattle.replay.specs.declared.answer.Judged.TheVariants.{Index, Refused as NoIndex}
 use Rattle.replay.specs.State.{ReplayState, judge_of}
 use Rattle.replay.specs.Receive.{index_for, judge_index, receive_of}
 use Rattle.replay.specs.Send.{step_of, next_of, send_of}
@@ -55,15 +52,15 @@ widen (y ∷ l) m w x e = go (eqb x y) refl e (widen l m (and_right (among m y) 
 
 -- ---- the parts of a call
 
-abbrev pub HeaderIn : List ℕ → Header → Type 0
-HeaderIn l (Read h) = Unit {0}
-HeaderIn l (Refused r) = NumberIn l r
+abbrev pub HeaderIn : List ℕ → Result Layout Refusal → Type 0
+HeaderIn l (Ok h) = Unit {0}
+HeaderIn l (Err r) = NumberIn l r
 
-abbrev IndexIn : List ℕ → Judged → Type 0
-IndexIn l (Index i) = Unit {0}
-IndexIn l (NoIndex r) = NumberIn l r
+abbrev IndexIn : List ℕ → Result ℕ Refusal → Type 0
+IndexIn l (Ok i) = Unit {0}
+IndexIn l (Err r) = NumberIn l r
 
-header-by : (a b c : Bool) (h : Layout) → HeaderIn (2 ∷ 3 ∷ 4 ∷ []) (pick a (Refused Short) (pick b (Refused Version) (pick c (Refused NoHeader) (Read h))))
+header-by : (a b c : Bool) (h : Layout) → HeaderIn (2 ∷ 3 ∷ 4 ∷ []) (pick a (Err Short) (pick b (Err Version) (pick c (Err NoHeader) (Ok h))))
 header-by true b c h = refl
 header-by false true c h = refl
 header-by false false true h = refl
@@ -77,21 +74,21 @@ two-to-four p t = header-by (ltb (length p) (12 + t)) (not (eqb (version_of p) 2
 abbrev pub early_numbers : List ℕ
 early_numbers = 1 ∷ 2 ∷ 3 ∷ 4 ∷ 5 ∷ 6 ∷ 7 ∷ []
 
-judged-by : (a b c : Bool) (h : Layout) → HeaderIn early_numbers (pick a (Refused Profile) (pick b (Refused Element) (pick c (Refused Large) (Read h))))
+judged-by : (a b c : Bool) (h : Layout) → HeaderIn early_numbers (pick a (Err Profile) (pick b (Err Element) (pick c (Err Large) (Ok h))))
 judged-by true b c h = refl
 judged-by false true c h = refl
 judged-by false false true h = refl
 judged-by false false false h = tt
 
-after-by : (way : Way) (policy : Policy) (t : ℕ) (p : List ℕ) (h : Header) → HeaderIn (2 ∷ 3 ∷ 4 ∷ []) h → HeaderIn early_numbers (judged_after way policy t p h)
-after-by way policy t p (Refused r) e = widen (2 ∷ 3 ∷ 4 ∷ []) early_numbers refl (number_of r) e
-after-by way policy t p (Read h) e = judged-by (not (profile_fits way policy h)) (not (elements_fit policy h p)) (not (size_fits way policy t h p)) h
+after-by : (way : Way) (policy : Policy) (t : ℕ) (p : List ℕ) (h : Result Layout Refusal) → HeaderIn (2 ∷ 3 ∷ 4 ∷ []) h → HeaderIn early_numbers (judged_after way policy t p h)
+after-by way policy t p (Err r) e = widen (2 ∷ 3 ∷ 4 ∷ []) early_numbers refl (number_of r) e
+after-by way policy t p (Ok h) e = judged-by (not (profile_fits way policy h)) (not (elements_fit policy h p)) (not (size_fits way policy t h p)) h
 
 two-to-seven : (way : Way) (policy : Policy) (t : ℕ) (p : List ℕ) → HeaderIn early_numbers (judged_of way policy t p)
 unfolding judged_of
 two-to-seven way policy t p = after-by way policy t p (header_of p (tail_of way t)) (two-to-four p (tail_of way t))
 
-sent-by : (a b c : Bool) (i j : ℕ) → IndexIn (10 ∷ 11 ∷ []) (pick a (pick b (NoIndex Order) (pick c (NoIndex Worn) (Index i))) (Index j))
+sent-by : (a b c : Bool) (i j : ℕ) → IndexIn (10 ∷ 11 ∷ []) (pick a (pick b (Err Order) (pick c (Err Worn) (Ok i))) (Ok j))
 sent-by true true c i j = refl
 sent-by true false true i j = refl
 sent-by true false false i j = tt
@@ -103,7 +100,7 @@ ten-or-eleven s rollover seq =
     sent-by s.started (not (leb 1 (step_of s.highest seq) && leb (step_of s.highest seq) 32767))
     (leb (2 ^ 48) (s.highest + step_of s.highest seq)) (s.highest + step_of s.highest seq) (rollover * 65536 + seq)
 
-got-by : (a b c d : Bool) (i : ℕ) → IndexIn (11 ∷ 12 ∷ 13 ∷ []) (pick d (NoIndex Worn) (pick a (pick b (NoIndex Old) (pick c (NoIndex Repeat) (Index i))) (Index i)))
+got-by : (a b c d : Bool) (i : ℕ) → IndexIn (11 ∷ 12 ∷ 13 ∷ []) (pick d (Err Worn) (pick a (pick b (Err Old) (pick c (Err Repeat) (Ok i))) (Ok i)))
 got-by a b c true i = refl
 got-by true true c false i = refl
 got-by true false true false i = refl
@@ -146,17 +143,17 @@ pub data Timing (late : List ℕ) (act : Found → Effect) : Type 0 where
   later : ((found : Found) → Refuses late (act found)) → Timing late act
 
 module _ (setup : Setup) (buf : List ℕ) (n : ℕ) where
-  sent-late : (j : Judged) (t : ReplayState) → IndexIn (10 ∷ 11 ∷ []) j → Refuses (late_numbers Sending) (protect_at setup.suite setup.keys setup.policy (listed_by setup) buf n j t)
-  sent-late (Index i) t e = tt
-  sent-late (NoIndex r) t e = widen (10 ∷ 11 ∷ []) (late_numbers Sending) refl (number_of r) e
+  sent-late : (j : Result ℕ Refusal) (t : ReplayState) → IndexIn (10 ∷ 11 ∷ []) j → Refuses (late_numbers Sending) (protect_at setup.suite setup.keys setup.policy (listed_by setup) buf n j t)
+  sent-late (Ok i) t e = tt
+  sent-late (Err r) t e = widen (10 ∷ 11 ∷ []) (late_numbers Sending) refl (number_of r) e
 
   tag-late : (fits : Bool) (m : ℕ) (b : List ℕ) (t : ReplayState) → Refuses (late_numbers Receiving) (pick fits (give m b t) (refuse Tag))
   tag-late true m b t = tt
   tag-late false m b t = refl
 
-  received-late : (j : Judged) (t : ReplayState) → IndexIn (11 ∷ 12 ∷ 13 ∷ []) j → Refuses (late_numbers Receiving) (unprotect_at setup.suite setup.keys setup.policy (listed_by setup) buf n j t)
-  received-late (Index i) t e = tag-late (tag_fits setup.suite setup.keys setup.policy (ssrc_of (take n buf)) i (take n buf)) _ _ t
-  received-late (NoIndex r) t e = widen (11 ∷ 12 ∷ 13 ∷ []) (late_numbers Receiving) refl (number_of r) e
+  received-late : (j : Result ℕ Refusal) (t : ReplayState) → IndexIn (11 ∷ 12 ∷ 13 ∷ []) j → Refuses (late_numbers Receiving) (unprotect_at setup.suite setup.keys setup.policy (listed_by setup) buf n j t)
+  received-late (Ok i) t e = tag-late (tag_fits setup.suite setup.keys setup.policy (ssrc_of (take n buf)) i (take n buf)) _ _ t
+  received-late (Err r) t e = widen (11 ∷ 12 ∷ 13 ∷ []) (late_numbers Receiving) refl (number_of r) e
 
   in-late : (way : Way) (found : Found) → Refuses (late_numbers way) (in_by setup buf n way found)
   in-late Sending none = refl
@@ -171,13 +168,13 @@ module _ (setup : Setup) (buf : List ℕ) (n : ℕ) where
   room-late true found = refl
   room-late false found = in-late Sending found
 
-  read-timing : (way : Way) (h : Header) → HeaderIn early_numbers h → Timing (late_numbers way) (read_by setup buf n way h)
-  read-timing Sending (Refused r) e = early (record { reason = r; number = e; refuses = λ found. refl })
-  read-timing Receiving (Refused r) e = early (record { reason = r; number = e; refuses = λ found. refl })
-  read-timing Sending (Read h) e = later (room-late (ltb (length buf) (wire_length setup.suite setup.policy buf n)))
-  read-timing Receiving (Read h) e = later (in-late Receiving)
+  read-timing : (way : Way) (h : Result Layout Refusal) → HeaderIn early_numbers h → Timing (late_numbers way) (read_by setup buf n way h)
+  read-timing Sending (Err r) e = early (record { reason = r; number = e; refuses = λ found. refl })
+  read-timing Receiving (Err r) e = early (record { reason = r; number = e; refuses = λ found. refl })
+  read-timing Sending (Ok h) e = later (room-late (ltb (length buf) (wire_length setup.suite setup.policy buf n)))
+  read-timing Receiving (Ok h) e = later (in-late Receiving)
 
-  first-timing : (way : Way) (c : Bool) (h : Header) → HeaderIn early_numbers h → Timing (late_numbers way) (λ found. pick c (refuse Length) (read_by setup buf n way h found))
+  first-timing : (way : Way) (c : Bool) (h : Result Layout Refusal) → HeaderIn early_numbers h → Timing (late_numbers way) (λ found. pick c (refuse Length) (read_by setup buf n way h found))
   first-timing way true h e = early (record { reason = Length; number = refl; refuses = λ found. refl })
   first-timing way false h e = read-timing way h e
 

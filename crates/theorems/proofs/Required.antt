@@ -1,4 +1,6 @@
 -- Under policy 2 whatever is accepted came with contributors and extension encrypted, or had neither.
+use Rattle.bits.specs.declared.refusal.Refusal.{Refusal}
+use Rattle.std.specs.Prelude.{Result, Ok, Err}
 use mathlib.Core.Path.{◌≡◌, refl, sym, ap, ◌∙◌}
 use mathlib.Core.Bool.{Bool, true, false}
 use mathlib.Core.Logic.{◌⊎◌, inl, inr}
@@ -11,12 +13,8 @@ use lib.ListN.{length, get_or, take, drop, get_or-append}
 use Rattle.bits.specs.Pick.{pick}
 use Rattle.bits.specs.declared.refusal.Refusal.TheVariants as refusal
 use Rattle.bits.proofs.Refusals.{above_zero}
-use Rattle.rtp_header.specs.declared.header.Header.{Header}
-use Rattle.rtp_header.specs.declared.header.Header.TheVariants.{Read, Refused}
 use Rattle.rtp_header.specs.declared.header.Layout.{Layout}
 use Rattle.rtp_header.specs.Header.{has_extension, count_of, seq_of, ssrc_of, layout_of, header_number}
-use Rattle.replay.specs.declared.answer.Judged.{Judged}
-use Rattle.replay.specs.declared.answer.Judged.TheVariants.{Index, Refused as NoIndex}
 use Rattle.replay.specs.State.{ReplayState}
 use Rattle.replay.specs.Receive.{receive_of}
 use Rattle.replay.specs.Window.{blocks, width}
@@ -69,7 +67,7 @@ module _ (s : Session) (buf : List ℕ) (n : ℕ) (required : s.setup.policy ≡
     abbrev after : ℕ → List ℕ
     after i = given i ++ drop (n - tag_length_of setup.suite) buf
 
-    by-x : (i : ℕ) → (receive_of blocks width r.replay r.rollover (seq_of w)).judged ≡ Index i → (x : Bool) → (layout_of w).x ≡ x
+    by-x : (i : ℕ) → (receive_of blocks width r.replay r.rollover (seq_of w)).judged ≡ Ok i → (x : Bool) → (layout_of w).x ≡ x
         → pick x (is_cryptex_tag (layout_of w).tag) (eqb (layout_of w).cc 0) ≡ true
         → Allowed (after i)
     by-x i j true x says =
@@ -93,15 +91,15 @@ module _ (s : Session) (buf : List ℕ) (n : ℕ) (required : s.setup.policy ≡
         })
     by-x i j false x says = inr (record { extension = sym (layout-x w) ∙ x; contributors = sym (layout-count w) ∙ eqb-true (layout_of w).cc 0 says })
 
-    by-tag : (i : ℕ) → (receive_of blocks width r.replay r.rollover (seq_of w)).judged ≡ Index i → (t : ReplayState) (fits : Bool)
+    by-tag : (i : ℕ) → (receive_of blocks width r.replay r.rollover (seq_of w)).judged ≡ Ok i → (t : ReplayState) (fits : Bool)
         → AllowedBy (pick fits (give (n - tag_length_of setup.suite) (after i) t) (refuse refusal.Tag))
     by-tag i j t true = by-x i j (layout_of w).x refl (rw required at d.profile)
     by-tag i j t false = tt
 
-    by_index : (j : Judged) → (receive_of blocks width r.replay r.rollover (seq_of w)).judged ≡ j → (t : ReplayState)
+    by_index : (j : Result ℕ Refusal) → (receive_of blocks width r.replay r.rollover (seq_of w)).judged ≡ j → (t : ReplayState)
         → AllowedBy (unprotect_at setup.suite setup.keys setup.policy (listed_by setup) buf n j t)
-    by_index (NoIndex q) e t = tt
-    by_index (Index i) e t = by-tag i e t (tag_fits setup.suite setup.keys setup.policy (ssrc_of w) i w)
+    by_index (Err q) e t = tt
+    by_index (Ok i) e t = by-tag i e t (tag_fits setup.suite setup.keys setup.policy (ssrc_of w) i w)
 
   by-record : Passed Receiving setup.policy (tag_length_of setup.suite) w → (found : Found) → record_for s.records (ssrc_of w) Receiving ≡ found
       → AllowedBy (unprotect_in setup.suite setup.keys setup.policy (listed_by setup) buf n found)
@@ -111,10 +109,10 @@ module _ (s : Session) (buf : List ℕ) (n : ℕ) (required : s.setup.policy ≡
   abbrev there : Found
   there = record_for s.records (ssrc_of w) Receiving
 
-  by-header : (h : Header) → judged_of Receiving setup.policy (tag_length_of setup.suite) w ≡ h
+  by-header : (h : Result Layout Refusal) → judged_of Receiving setup.policy (tag_length_of setup.suite) w ≡ h
       → AllowedBy (unprotect_read setup.suite setup.keys setup.policy (listed_by setup) buf n h there)
-  by-header (Refused r) e = tt
-  by-header (Read h) e = by-record (passed Receiving setup.policy (tag_length_of setup.suite) w (ap header_number e)) there refl
+  by-header (Err r) e = tt
+  by-header (Ok h) e = by-record (passed Receiving setup.policy (tag_length_of setup.suite) w (ap header_number e)) there refl
 
   by_length : (longer : Bool)
       → AllowedBy (pick longer (refuse refusal.Length) (unprotect_read setup.suite setup.keys setup.policy (listed_by setup) buf n (judged_of Receiving setup.policy (tag_length_of setup.suite) w) there))
@@ -150,10 +148,10 @@ module _ (s : Session) (buf : List ℕ) (n : ℕ) (uses : uses_cryptex s.setup.p
       judged-plain s.setup.policy (tag_length_of s.setup.suite) (take n buf) (not-both s.setup.policy uses)
       (fits-without s.setup.policy (layout_of (take n buf)) uses none-there (λ two. layout-count (take n buf) ∙ bare two))
 
-  same_at : Passed Receiving s.setup.policy (tag_length_of s.setup.suite) (take n buf) → (j : Judged) (t : ReplayState)
+  same_at : Passed Receiving s.setup.policy (tag_length_of s.setup.suite) (take n buf) → (j : Result ℕ Refusal) (t : ReplayState)
       → unprotect_at s.setup.suite s.setup.keys s.setup.policy (listed_by s.setup) buf n j t ≡ unprotect_at s.setup.suite s.setup.keys Plain (listed_by s.setup) buf n j t
-  same_at d (NoIndex r) t = refl
-  same_at d (Index i) t =
+  same_at d (Err r) t = refl
+  same_at d (Ok i) t =
       rw (
         restored-plain s.setup.suite s.setup.keys s.setup.policy (listed_by s.setup) (ssrc_of (take n buf)) i (take n buf) d (not-both s.setup.policy uses) no-cryptex,
         tagged-plain s.setup.suite s.setup.keys s.setup.policy (listed_by s.setup) (ssrc_of (take n buf)) i (take n buf) d no-cryptex,
@@ -164,10 +162,10 @@ module _ (s : Session) (buf : List ℕ) (n : ℕ) (uses : uses_cryptex s.setup.p
   same_in d none = refl
   same_in d (some r) = same_at d (receive_of blocks width r.replay r.rollover (seq_of (take n buf))).judged _
 
-  same_read : (found : Found) (h : Header) → judged_of Receiving s.setup.policy (tag_length_of s.setup.suite) (take n buf) ≡ h
+  same_read : (found : Found) (h : Result Layout Refusal) → judged_of Receiving s.setup.policy (tag_length_of s.setup.suite) (take n buf) ≡ h
       → unprotect_read s.setup.suite s.setup.keys s.setup.policy (listed_by s.setup) buf n h found ≡ unprotect_read s.setup.suite s.setup.keys Plain (listed_by s.setup) buf n h found
-  same_read found (Refused r) e = refl
-  same_read found (Read h) e = same_in (passed Receiving s.setup.policy (tag_length_of s.setup.suite) (take n buf) (ap header_number e)) found
+  same_read found (Err r) e = refl
+  same_read found (Ok h) e = same_in (passed Receiving s.setup.policy (tag_length_of s.setup.suite) (take n buf) (ap header_number e)) found
 
   same-done : done_by Receiving s buf n ≡ done_by Receiving (plain_of s) buf n
   same-done =
@@ -175,7 +173,7 @@ module _ (s : Session) (buf : List ℕ) (n : ℕ) (uses : uses_cryptex s.setup.p
       effect_is s.setup buf n Receiving found
       ∙ ap (λ (d : Effect). pick (ltb (length buf) n) (refuse refusal.Length) d)
       (same_read found _ refl
-      ∙ ap (λ (h : Header). unprotect_read s.setup.suite s.setup.keys Plain (listed_by s.setup) buf n h found) same-judged)
+      ∙ ap (λ (h : Result Layout Refusal). unprotect_read s.setup.suite s.setup.keys Plain (listed_by s.setup) buf n h found) same-judged)
       ∙ sym (effect_is (plain_of s).setup buf n Receiving found)
 
   same-records : (d : Effect) → (settled s buf (ssrc_of (take n buf)) Receiving d).session.records ≡ (settled (plain_of s) buf (ssrc_of (take n buf)) Receiving d).session.records

@@ -1,4 +1,5 @@
 -- What a stream sends: each packet was protected under the index that the paper's rule gives it.
+use Rattle.std.specs.Prelude.{Ok}
 use mathlib.Core.Path.{◌≡◌, refl, ap, ◌∙◌, sym}
 use mathlib.Core.Bool.{Bool, true, false, ◌&&◌}
 use mathlib.Core.List.{List, [], ◌∷◌}
@@ -14,7 +15,6 @@ use Rattle.bits.specs.Refusals.{number_of}
 use Rattle.bits.proofs.Refusals.{above_zero}
 use Rattle.bits.specs.Lists.{Each}
 use Rattle.rtp_header.specs.Header.{header_number, layout_of, seq_of, ssrc_of}
-use Rattle.replay.specs.declared.answer.Judged.TheVariants.{Index}
 use Rattle.replay.specs.State.{ReplayState}
 use Rattle.replay.specs.Guess.{low_of}
 use Rattle.replay.specs.Send.{step_of, sent_of, send_of}
@@ -66,7 +66,7 @@ pub record Indexed (rollover : ℕ) (last : Last) (p : List ℕ) (i : ℕ) : Typ
   pub small : i < 2 ^ 48
 
 module _ (t : ReplayState) (rollover : ℕ) (large : rollover < 2 ^ 32) (p : List ℕ) (bytes : (i : ℕ) → get_or p i 0 < 256) (i : ℕ)
-    (step : (send_of t rollover (seq_of p)).judged ≡ Index i) where
+    (step : (send_of t rollover (seq_of p)).judged ≡ Ok i) where
   from : (P : ℕ → Type 0) → (t.started ≡ false → P (rollover * 65536 + seq_of p)) → (t.started ≡ true → P (t.highest + step_of t.highest (seq_of p))) → P i
   unfolding send_of
   from P f g = gives_at P (send_of t rollover (seq_of p)).judged i step (next-gives t rollover (seq_of p) P f (λ e a b. g e))
@@ -129,7 +129,7 @@ module _ (h : Setup) (x rollover : ℕ) (large : rollover < 2 ^ 32) where
       all-bytes : (i : ℕ) → get_or (take n buf) i 0 < 256
       all-bytes = take-bytes n buf bytes
 
-      step : (send_of o.rec.replay rollover (seq_of (take n buf))).judged ≡ Index g.index
+      step : (send_of o.rec.replay rollover (seq_of (take n buf))).judged ≡ Ok g.index
       step = rw o.start at g.step
 
       numbered : Indexed rollover last (take n buf) g.index

@@ -1,4 +1,7 @@
 -- A packet call in its session: what it leaves, and a protect with a result read backwards.
+use Rattle.rtp_header.specs.declared.header.Layout.{Layout}
+use Rattle.bits.specs.declared.refusal.Refusal.{Refusal}
+use Rattle.std.specs.Prelude.{Result, Ok, Err}
 use mathlib.Core.Path.{◌≡◌, refl, sym, ap}
 use mathlib.Core.Bool.{Bool, true, false}
 use mathlib.Core.List.{List, ◌++◌}
@@ -8,11 +11,7 @@ use lib.Dec.{ltb}
 use lib.ListN.{length, take, drop}
 use Rattle.bits.specs.Pick.{pick}
 use Rattle.bits.specs.declared.refusal.Refusal.TheVariants as refusal
-use Rattle.rtp_header.specs.declared.header.Header.{Header}
-use Rattle.rtp_header.specs.declared.header.Header.TheVariants.{Read, Refused}
 use Rattle.rtp_header.specs.Header.{header_number, seq_of, ssrc_of}
-use Rattle.replay.specs.declared.answer.Judged.{Judged}
-use Rattle.replay.specs.declared.answer.Judged.TheVariants.{Index, Refused as NoIndex}
 use Rattle.replay.specs.State.{ReplayState}
 use Rattle.replay.specs.Send.{send_of}
 use Rattle.policies.specs.declared.policy.Way.{Way}
@@ -57,17 +56,17 @@ module _ (setup : Setup) (buf : List ℕ) (n : ℕ) where
     pub inside : n ≤ length buf
     pub passes : header_number (judged_of Sending setup.policy (tag_length_of setup.suite) (take n buf)) ≡ 0
     pub index : ℕ
-    pub step : (send_of r.replay r.rollover (seq_of (take n buf))).judged ≡ Index index
+    pub step : (send_of r.replay r.rollover (seq_of (take n buf))).judged ≡ Ok index
     pub size : m ≡ wire_length setup.suite setup.policy buf n
     pub buffer : b ≡ wire_of setup.suite setup.keys setup.policy (listed_by setup) (ssrc_of (take n buf)) index (take n buf) ++ drop (wire_length setup.suite setup.policy buf n) buf
     pub state : t ≡ (send_of r.replay r.rollover (seq_of (take n buf))).state
 
   module _ (r : Record) (m : ℕ) (b : List ℕ) (t : ReplayState) (inside : n ≤ length buf) where
     given-at : header_number (judged_of Sending setup.policy (tag_length_of setup.suite) (take n buf)) ≡ 0
-        → (j : Judged) → (send_of r.replay r.rollover (seq_of (take n buf))).judged ≡ j
+        → (j : Result ℕ Refusal) → (send_of r.replay r.rollover (seq_of (take n buf))).judged ≡ j
         → protect_at setup.suite setup.keys setup.policy (listed_by setup) buf n j (send_of r.replay r.rollover (seq_of (take n buf))).state ≡ give m b t → Given r m b t
-    given-at p (NoIndex q) e g = apart cc
-    given-at p (Index i) e g =
+    given-at p (Err q) e g = apart cc
+    given-at p (Ok i) e g =
         let x : wire_length setup.suite setup.policy buf n ≡ m = cc in
         let y : wire_of setup.suite setup.keys setup.policy (listed_by setup) (ssrc_of (take n buf)) i (take n buf) ++ drop (wire_length setup.suite setup.policy buf n) buf ≡ b = cc in
         let z : (send_of r.replay r.rollover (seq_of (take n buf))).state ≡ t = cc in
@@ -78,9 +77,9 @@ module _ (setup : Setup) (buf : List ℕ) (n : ℕ) where
     given-in true p g = apart cc
     given-in false p g = given-at p _ refl g
 
-    given-read : (h : Header) → judged_of Sending setup.policy (tag_length_of setup.suite) (take n buf) ≡ h → protect_read setup.suite setup.keys setup.policy (listed_by setup) buf n h (some r) ≡ give m b t → Given r m b t
-    given-read (Refused q) e g = apart cc
-    given-read (Read h) e g = given-in (ltb (length buf) (wire_length setup.suite setup.policy buf n)) (ap header_number e) g
+    given-read : (h : Result Layout Refusal) → judged_of Sending setup.policy (tag_length_of setup.suite) (take n buf) ≡ h → protect_read setup.suite setup.keys setup.policy (listed_by setup) buf n h (some r) ≡ give m b t → Given r m b t
+    given-read (Err q) e g = apart cc
+    given-read (Ok h) e g = given-in (ltb (length buf) (wire_length setup.suite setup.policy buf n)) (ap header_number e) g
 
   given-first : (r : Record) (m : ℕ) (b : List ℕ) (t : ReplayState) (c : Bool) → ltb (length buf) n ≡ c
       → pick c (refuse refusal.Length) (protect_read setup.suite setup.keys setup.policy (listed_by setup) buf n (judged_of Sending setup.policy (tag_length_of setup.suite) (take n buf)) (some r)) ≡ give m b t → Given r m b t

@@ -1,4 +1,5 @@
 -- Two neighbouring packet calls for different streams change places on memories: the words come out the same.
+use Rattle.std.specs.Prelude.{Option, Some, None}
 use mathlib.Core.Path.{◌≡◌, refl, sym, ap, ap₂, ◌∙◌, subst}
 use mathlib.Core.List.{List, [], ◌∷◌}
 use mathlib.Core.Logic.{⊎_elim}
@@ -7,8 +8,6 @@ use lib.ListN.{length, get_or}
 use Rattle.bits.specs.Lists.{Each}
 use Rattle.policies.specs.declared.policy.Way.{Way}
 use Rattle.policies.specs.declared.policy.Way.TheVariants.{Sending, Receiving}
-use Rattle.session.specs.declared.place.Place.{Place}
-use Rattle.session.specs.declared.place.Place.TheVariants.{At, Nowhere}
 use Rattle.session.specs.Session.{Setup, Session}
 use Rattle.session.specs.Records.{is_for, record_for}
 use Rattle.session.specs.Places.{no_record, place_from}
@@ -34,7 +33,7 @@ small-packet (add e x w r) k = absurd k
 small-packet (protect e buf n) k = tt
 small-packet (unprotect e buf n) k = tt
 
-abbrev place_of : List ℕ → Call → Place
+abbrev place_of : List ℕ → Call → Option ℕ
 place_of words c = place_from 0 (decode words).records (ssrc_in c) (way_in c)
 
 abbrev effect_at : List ℕ → Call → Effect
@@ -68,14 +67,14 @@ twice words sized c d kc kd differ =
     ∙ ap (λ (u : List ℕ). placed_by u (place_of words d) (effect_at words d)) (words-after words sized c kc)
 
 module _ (words : List ℕ) (sized : length words ≡ size) where
-  placed-commute : (p q : Place) (d e : Effect) → ((i : ℕ) → p ≡ At i → i < 32) → ((i : ℕ) → q ≡ At i → i < 32) → ((i : ℕ) → p ≡ At i → q ≡ At i → ⊥)
+  placed-commute : (p q : Option ℕ) (d e : Effect) → ((i : ℕ) → p ≡ Some i → i < 32) → ((i : ℕ) → q ≡ Some i → i < 32) → ((i : ℕ) → p ≡ Some i → q ≡ Some i → ⊥)
       → EffectFits d → EffectFits e → placed_by (placed_by words p d) q e ≡ placed_by (placed_by words q e) p d
-  placed-commute Nowhere q d e a b differ f g = refl
-  placed-commute (At i) Nowhere d e a b differ f g = refl
-  placed-commute (At i) (At j) (refuse r) e a b differ f g = refl
-  placed-commute (At i) (At j) (give m c t) (refuse r) a b differ f g = refl
-  placed-commute (At i) (At j) (give m c t) (give n k u) a b differ f g =
-      places-apart words sized i j (a i refl) (b j refl) (λ z. differ i refl (ap At (sym z))) t u f g
+  placed-commute None q d e a b differ f g = refl
+  placed-commute (Some i) None d e a b differ f g = refl
+  placed-commute (Some i) (Some j) (refuse r) e a b differ f g = refl
+  placed-commute (Some i) (Some j) (give m c t) (refuse r) a b differ f g = refl
+  placed-commute (Some i) (Some j) (give m c t) (give n k u) a b differ f g =
+      places-apart words sized i j (a i refl) (b j refl) (λ z. differ i refl (ap Some (sym z))) t u f g
 
   words-commute : (c d : Call) → IsPacketCall c → IsPacketCall d → (way_in c ≡ way_in d → ssrc_in c ≡ ssrc_in d → ⊥)
       → (left_by (left_by words c).words d).words ≡ (left_by (left_by words d).words c).words

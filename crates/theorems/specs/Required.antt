@@ -1,9 +1,8 @@
 -- Document 02, CR 2, "Required has to mean required": what unprotect accepts under policy 2, and what becomes of packets with X = 0, in any session and with
 -- anything in the buffer. That a packet which an honest sender protected is accepted, is `DemandThree`.
-use Rattle.std.specs.Prelude.{◌≡◌, true, false, ◌⊎◌, List, ℕ, ◌-◌, ◌≤◌, ◌<◌, length, get_or, take}
+use Rattle.std.specs.Prelude.{◌≡◌, true, false, ◌⊎◌, List, ℕ, ◌-◌, ◌≤◌, ◌<◌, length, get_or, take, Ok}
 use Rattle.bits.specs.Xor.{◌⊕◌}
 use Rattle.rtp_header.specs.Header.{has_extension, count_of, seq_of, ssrc_of, layout_of, header_of, header_number}
-use Rattle.replay.specs.declared.answer.Judged.TheVariants.{Index}
 use Rattle.replay.specs.Receive.{receive_of}
 use Rattle.replay.specs.Window.{blocks, width}
 use Rattle.policies.specs.declared.policy.Policy.TheVariants.{Plain}
@@ -24,7 +23,7 @@ pub record CameEncrypted (s : Session) (w after : List ℕ) : Type 0 where
   pub stream : Record
   pub found : record_for s.records (ssrc_of w) Receiving ≡ some stream
   pub index : ℕ
-  pub judged : (receive_of blocks width stream.replay stream.rollover (seq_of w)).judged ≡ Index index
+  pub judged : (receive_of blocks width stream.replay stream.rollover (seq_of w)).judged ≡ Ok index
   pub contributors : (i : ℕ) → 12 ≤ i → i < (layout_of w).extension → get_or w i 0 ≡ get_or after i 0 ⊕ stream_of s.setup.suite s.setup.keys (ssrc_of w) index (i - 12)
   pub block : (i : ℕ) → (layout_of w).block ≤ i → i < (layout_of w).payload → get_or w i 0 ≡ get_or after i 0 ⊕ stream_of s.setup.suite s.setup.keys (ssrc_of w) index (i - 16)
 

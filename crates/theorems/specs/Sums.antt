@@ -1,11 +1,10 @@
 -- Document 01, "Sums on the bench": G1 to G7, S1, S2 and M1 to M4, one table of the written meanings.
-use Rattle.std.specs.Prelude.{◌≡◌, List, [], ◌∷◌, map, ℕ, ◌-◌, ◌^◌, ℤ, pos, negsuc}
+use Rattle.std.specs.Prelude.{◌≡◌, List, [], ◌∷◌, map, ℕ, ◌-◌, ◌^◌, ℤ, pos, negsuc, Ok}
 use Rattle.bits.specs.Pick.{pick}
 use Rattle.bits.specs.Lists.{Each}
 use Rattle.rtp_elements.specs.Elements.{whole_of}
 use Rattle.rtp_elements.specs.Mask.{among, mask_of}
 use Rattle.replay.specs.declared.answer.Told.{Told}
-use Rattle.replay.specs.declared.answer.Judged.TheVariants.{Index}
 use Rattle.replay.specs.Receive.{Received, receive_of}
 use Rattle.replay.specs.Answers.{told_of}
 use Rattle.replay.specs.Guess.{guess_of}
@@ -34,7 +33,7 @@ abbrev pub received_at : ℕ → ℕ → Received
 received_at h seq = receive_of blocks width (accept_of blocks (fresh_of blocks) h) 0 seq
 
 abbrev pub sent_after : ℕ → ℕ → Told
-sent_after h seq = told_of (send_of (sent_of (fresh_of blocks) (Index h)) 0 seq).judged
+sent_after h seq = told_of (send_of (sent_of (fresh_of blocks) (Ok h)) 0 seq).judged
 
 abbrev pub result_of : Question → Result
 result_of (received h seq) = guessed (guess_of h seq) (received_at h seq).distance (told_of (received_at h seq).judged)

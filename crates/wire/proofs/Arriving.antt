@@ -1,4 +1,5 @@
 -- A packet of n bytes at the start of a buffer, with its tag in the last t.
+use Rattle.std.specs.Prelude.{Ok}
 use mathlib.Core.Path.{◌≡◌, sym, ap, ap₂, ◌∙◌}
 use mathlib.Core.Bool.{Bool, true, not, ◌||◌}
 use mathlib.Core.List.{List, ◌++◌}
@@ -7,7 +8,6 @@ use native.Mathlib.Omega.{arith}
 use lib.ListN.{length, get_or, take, drop, take-append-drop}
 use lib.Seq.{get_or-take, length-take-le, take-take}
 use Rattle.tags.specs.Tag.{same_of}
-use Rattle.rtp_header.specs.declared.header.Header.TheVariants.{Read}
 use Rattle.rtp_header.specs.declared.header.Layout.{Layout}
 use Rattle.rtp_elements.specs.Elements.{whole_of}
 use Rattle.rtp_header.specs.Header.{layout_of, block_of}
@@ -28,7 +28,7 @@ use Rattle.wire.proofs.Wires.{tag-compared}
 use Rattle.wire.proofs.Tagging.{judged-layout, judged-passed}
 use Rattle.wire.specs.Steps.{opened_of}
 
-module _ (policy : Policy) (t : ℕ) (l : List ℕ) (n : ℕ) (h : Layout) (inside : n ≤ length l) (e : judged_of Receiving policy t (take n l) ≡ Read h) where
+module _ (policy : Policy) (t : ℕ) (l : List ℕ) (n : ℕ) (h : Layout) (inside : n ≤ length l) (e : judged_of Receiving policy t (take n l) ≡ Ok h) where
   whole-layout : h ≡ layout_of (take n l)
   whole-layout = judged-layout Receiving policy t (take n l) h e
 

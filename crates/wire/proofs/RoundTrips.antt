@@ -1,4 +1,6 @@
 -- What is sent is given back.
+use Rattle.bits.specs.declared.refusal.Refusal.{Refusal}
+use Rattle.std.specs.Prelude.{Result, Ok, Err}
 use mathlib.Core.Path.{◌≡◌, refl, sym, ap, ap₂, ◌∙◌}
 use mathlib.Core.Bool.{Bool, true, false, not, ◌&&◌, ◌||◌}
 use mathlib.Core.Logic.{◌⊎◌, inl, inr}
@@ -11,8 +13,6 @@ use lib.ListN.{length, get_or, take, drop, length-append, length-drop, get_or-ap
 use lib.Seq.{take_at, take-append-le, drop-append-le}
 use Rattle.bits.specs.Pick.{pick}
 use Rattle.bits.specs.declared.refusal.Refusal.TheVariants as refusal
-use Rattle.rtp_header.specs.declared.header.Header.{Header}
-use Rattle.rtp_header.specs.declared.header.Header.TheVariants.{Read, Refused}
 use Rattle.rtp_header.specs.declared.header.Layout.{Layout}
 use Rattle.rtp_elements.specs.Elements.{whole_of}
 use Rattle.rtp_header.specs.Header.{version_of, layout_of, block_of, bounded_of, header_of, header_number}
@@ -48,15 +48,15 @@ pub record Passed (way : Way) (policy : Policy) (t : ℕ) (p : List ℕ) : Type 
 
 module _ (way : Way) (policy : Policy) (t : ℕ) (p : List ℕ) where
   header-passed : (a b c : Bool) (h : Layout)
-      → header_number (judged_after way policy t p (pick a (Refused refusal.Short) (pick b (Refused refusal.Version) (pick c (Refused refusal.Header) (Read h))))) ≡ 0
-      → (a ≡ false) × (b ≡ false) × (c ≡ false) × (header_number (judged_after way policy t p (Read h)) ≡ 0)
+      → header_number (judged_after way policy t p (pick a (Err refusal.Short) (pick b (Err refusal.Version) (pick c (Err refusal.Header) (Ok h))))) ≡ 0
+      → (a ≡ false) × (b ≡ false) × (c ≡ false) × (header_number (judged_after way policy t p (Ok h)) ≡ 0)
   header-passed true b c h e = absurd (omega arith)
   header-passed false true c h e = absurd (omega arith)
   header-passed false false true h e = absurd (omega arith)
   header-passed false false false h e = (refl, refl, refl, e)
 
   rest-passed : (a b c : Bool) (h : Layout)
-      → header_number (pick a (Refused refusal.Profile) (pick b (Refused refusal.Element) (pick c (Refused refusal.Large) (Read h)))) ≡ 0
+      → header_number (pick a (Err refusal.Profile) (pick b (Err refusal.Element) (pick c (Err refusal.Large) (Ok h)))) ≡ 0
       → (a ≡ false) × (b ≡ false) × (c ≡ false)
   rest-passed true b c h e = absurd (omega arith)
   rest-passed false true c h e = absurd (omega arith)
@@ -81,7 +81,7 @@ module _ (way : Way) (policy : Policy) (t : ℕ) (p : List ℕ) where
       not-not true e = e
       not-not false e = refl
 
-  pub judged : Passed way policy t p → judged_of way policy t p ≡ Read (layout_of p)
+  pub judged : Passed way policy t p → judged_of way policy t p ≡ Ok (layout_of p)
   unfolding judged_of header_of bounded_of
   judged d =
       simp (le-ltb (length p) (12 + tail_of way t) d.long, eq-eqb (version_of p) 2 d.version, le-ltb (length p - tail_of way t) (layout_of p).payload d.fits, d.profile, d.elements, le-ltb 2048 (length p + added_of way policy t (layout_of p)) d.size)
@@ -288,9 +288,9 @@ sending-alike =
           (crypted-alike listed (stream_of suite keys ssrc index) (header_stream_of suite keys ssrc index) (tagged_of Cryptex (given_back_of Cryptex p))));
     }
   where
-    judged-alike : (t : ℕ) (p : List ℕ) (h : Header) → judged_after Sending CryptexRequired t p h ≡ judged_after Sending Cryptex t p h
-    judged-alike t p (Refused r) = refl
-    judged-alike t p (Read h) = refl
+    judged-alike : (t : ℕ) (p : List ℕ) (h : Result Layout Refusal) → judged_after Sending CryptexRequired t p h ≡ judged_after Sending Cryptex t p h
+    judged-alike t p (Err r) = refl
+    judged-alike t p (Ok h) = refl
 
 pub not-both : (policy : Policy) → uses_cryptex policy ≡ true → uses_mask policy ≡ false
 not-both Plain e = apart cc
@@ -298,10 +298,10 @@ not-both Cryptex e = refl
 not-both CryptexRequired e = refl
 not-both Mask e = apart cc
 
-after_same : (way : Way) (policy : Policy) (t : ℕ) (p q : List ℕ) → uses_mask policy ≡ false → length q ≡ length p → (h : Header)
+after_same : (way : Way) (policy : Policy) (t : ℕ) (p q : List ℕ) → uses_mask policy ≡ false → length q ≡ length p → (h : Result Layout Refusal)
     → judged_after way policy t q h ≡ judged_after way policy t p h
-after_same way policy t p q m n (Refused r) = refl
-after_same way policy t p q m n (Read h) = rw (m, n)
+after_same way policy t p q m n (Err r) = refl
+after_same way policy t p q m n (Ok h) = rw (m, n)
 
 header-same : (k : ℕ) (p q : List ℕ) → length q ≡ length p → get_or q 0 0 ≡ get_or p 0 0 → layout_of q ≡ layout_of p → header_of q k ≡ header_of p k
 unfolding header_of bounded_of

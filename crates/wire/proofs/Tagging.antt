@@ -1,4 +1,5 @@
 -- The tag and the added block as the code writes them: h is the layout that was read.
+use Rattle.std.specs.Prelude.{Ok}
 use mathlib.Core.Path.{◌≡◌, sym, ap, ◌∙◌}
 use mathlib.Core.Bool.{true, false, not, ◌&&◌}
 use mathlib.Core.List.{List, ◌++◌}
@@ -9,7 +10,6 @@ use lib.Dec.{ltb}
 use lib.ListN.{length, get_or, take, drop}
 use lib.Seq.{get_or-take, length-take-le, take_at, drop_at}
 use Rattle.bits.specs.Pick.{pick}
-use Rattle.rtp_header.specs.declared.header.Header.TheVariants.{Read}
 use Rattle.rtp_header.specs.declared.header.Layout.{Layout}
 use Rattle.rtp_header.specs.Header.{has_extension, past_contributors, layout_by, layout_of, header_number}
 use Rattle.policies.specs.declared.policy.Policy.{Policy}
@@ -68,12 +68,12 @@ adds-cryptex policy h a = and_left (uses_cryptex policy) (not h.x && ltb 0 h.cc)
 
 -- ---- a packet that was judged
 
-pub judged-layout : (way : Way) (policy : Policy) (t : ℕ) (p : List ℕ) (h : Layout) → judged_of way policy t p ≡ Read h → h ≡ layout_of p
+pub judged-layout : (way : Way) (policy : Policy) (t : ℕ) (p : List ℕ) (h : Layout) → judged_of way policy t p ≡ Ok h → h ≡ layout_of p
 judged-layout way policy t p h e =
-    let q : Read h ≡ Read (layout_of p) = sym e ∙ judged way policy t p (passed way policy t p (ap header_number e)) in
+    let q : Ok h ≡ Ok (layout_of p) = sym e ∙ judged way policy t p (passed way policy t p (ap header_number e)) in
     cc
 
-pub judged-passed : (way : Way) (policy : Policy) (t : ℕ) (p : List ℕ) (h : Layout) → judged_of way policy t p ≡ Read h → Passed way policy t p
+pub judged-passed : (way : Way) (policy : Policy) (t : ℕ) (p : List ℕ) (h : Layout) → judged_of way policy t p ≡ Ok h → Passed way policy t p
 judged-passed way policy t p h e = passed way policy t p (ap header_number e)
 
 -- ---- the packet of n bytes at the start of a buffer
@@ -84,7 +84,7 @@ front-is n l = let z : n - 0 ≡ n = omega arith in ap (λ (k : ℕ). take k l) 
 pub back_is : (n : ℕ) (l : List ℕ) → drop (n - 0) (drop 0 l) ≡ drop n l
 back_is n l = let z : n - 0 ≡ n = omega arith in ap (λ (k : ℕ). drop k l) z
 
-module _ (t : ℕ) (policy : Policy) (l : List ℕ) (n : ℕ) (h : Layout) (inside : n ≤ length l) (e : judged_of Sending policy t (take n l) ≡ Read h) where
+module _ (t : ℕ) (policy : Policy) (l : List ℕ) (n : ℕ) (h : Layout) (inside : n ≤ length l) (e : judged_of Sending policy t (take n l) ≡ Ok h) where
   pub read : h ≡ layout_of (take n l)
   read = judged-layout Sending policy t (take n l) h e
 

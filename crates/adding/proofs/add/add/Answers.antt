@@ -54,36 +54,36 @@ returns-in_default c =
 
 pub overflow_mul-at : goal.overflow_mul-at
 overflow_mul-at c =
-    let h : c.in-At.i < 32 = rw c.in-At.is at c.free_place.ensures.inside in
+    let h : c.in-Some.i < 32 = rw c.in-Some.is at c.free_place.ensures.inside in
     search (rules, h)
 
 pub overflow_add-at : goal.overflow_add-at
 overflow_add-at c =
-    let h : c.in-At.i < 32 = rw c.in-At.is at c.free_place.ensures.inside in
+    let h : c.in-Some.i < 32 = rw c.in-Some.is at c.free_place.ensures.inside in
     search (rules, h)
 
 pub overflow_add-end : goal.overflow_add-end
 overflow_add-end c =
-    let h : c.in-At.i < 32 = rw c.in-At.is at c.free_place.ensures.inside in
+    let h : c.in-Some.i < 32 = rw c.in-Some.is at c.free_place.ensures.inside in
     search (rules, h)
 
 pub offset_bounds-session-at : goal.offset_bounds-session-at
 offset_bounds-session-at c =
-    let h : c.in-At.i < 32 = rw c.in-At.is at c.free_place.ensures.inside in
+    let h : c.in-Some.i < 32 = rw c.in-Some.is at c.free_place.ensures.inside in
     search (rules, h)
 
 pub slice_bounds-copy-end : goal.slice_bounds-copy-end
 slice_bounds-copy-end c =
-    let h : c.in-At.i < 32 = rw c.in-At.is at c.free_place.ensures.inside in
+    let h : c.in-Some.i < 32 = rw c.in-Some.is at c.free_place.ensures.inside in
     omega (arith, h, c.if-session-ne-SIZE.false)
 
 pub returns : goal.returns
 returns c =
     let w = c.args.session.now in
     let a = c.args in
-    let i = c.in-At.i in
+    let i = c.in-Some.i in
     let is : c.copy.new.to ≡ record_words (fresh_record a.ssrc (way_of a.way) a.rollover) =
     c.copy.ensures ∙ c.fresh_record-words.ensures ∙ ap (λ (x : Way). record_words (fresh_record a.ssrc x a.rollover)) c.way_of.ensures in
     let l : length c.copy.new.to ≡ each = ap length is ∙ fresh-long a.ssrc (way_of a.way) a.rollover in
-    add-placed-in w a.ssrc a.way a.rollover c.if-session-ne-SIZE.false c.if-unknown.false (sym c.is_made.ensures ∙ c.if-not-is_made.false) (sym c.has_ssrc.ensures ∙ c.if-has_ssrc.false) _ c.free_place.ensures.value i c.in-At.is _
+    add-placed-in w a.ssrc a.way a.rollover c.if-session-ne-SIZE.false c.if-unknown.false (sym c.is_made.ensures ∙ c.if-not-is_made.false) (sym c.has_ssrc.ensures ∙ c.if-has_ssrc.false) _ c.free_place.ensures.value i c.in-Some.is _
     (came-back (record_place i) (record_place i + each) w c.copy.new.to (omega arith) ∙ ap (λ (p : List ℕ). with_part (record_place i) p w) is)

@@ -16,26 +16,26 @@ returns-in_default c =
 
 pub judge-requires : goal.judge-requires
 judge-requires c =
-    (c.requires.0, rw c.in-At.is at c.place_of.ensures.inside)
+    (c.requires.0, rw c.in-Some.is at c.place_of.ensures.inside)
 
-pub returns-in-Refused : goal.returns-in-Refused
-returns-in-Refused c =
+pub returns-in-Err : goal.returns-in-Err
+returns-in-Err c =
     let w = c.args.session.now in
     let b = c.args.packet.now in
     let v = c.args.way in
     let h = c.args.h in
-    rw c.refuse-in-Refused.ensures record {
-      value = no_index v w b h _ c.ssrc-own.ensures _ c.place_of.ensures.value _ c.in-At.is _ _ c.sequence_number-sequence.ensures c.judge.ensures _ c.in-Refused.is;
+    rw c.refuse-in-Err.ensures record {
+      value = no_index v w b h _ c.ssrc-own.ensures _ c.place_of.ensures.value _ c.in-Some.is _ _ c.sequence_number-sequence.ensures c.judge.ensures _ c.in-Err.is;
       in_stream = tt;
     }
 
-pub returns-in-Index : goal.returns-in-Index
-returns-in-Index c =
+pub returns-in-Ok : goal.returns-in-Ok
+returns-in-Ok c =
     let w = c.args.session.now in
     let b = c.args.packet.now in
     let v = c.args.way in
     let h = c.args.h in record {
-      value = with-index v w b h _ c.ssrc-own.ensures _ c.place_of.ensures.value _ c.in-At.is _ _ c.sequence_number-sequence.ensures c.judge.ensures _ c.in-Index.is;
-      in_stream = is-placed v w b h _ c.ssrc-own.ensures _ c.place_of.ensures.value _ c.in-At.is _ _ c.sequence_number-sequence.ensures c.judge.ensures _ c.in-Index.is
-          (rw c.in-At.is at c.place_of.ensures.inside) (search (rules, c.sequence_number-sequence));
+      value = with-index v w b h _ c.ssrc-own.ensures _ c.place_of.ensures.value _ c.in-Some.is _ _ c.sequence_number-sequence.ensures c.judge.ensures _ c.in-Ok.is;
+      in_stream = is-placed v w b h _ c.ssrc-own.ensures _ c.place_of.ensures.value _ c.in-Some.is _ _ c.sequence_number-sequence.ensures c.judge.ensures _ c.in-Ok.is
+          (rw c.in-Some.is at c.place_of.ensures.inside) (search (rules, c.sequence_number-sequence));
     }

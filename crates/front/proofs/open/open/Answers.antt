@@ -41,7 +41,7 @@ returns-then-buf-n-2 c =
     let n = c.args.n in
     let v = c.args.way in
     rw c.refuse-then-buf-n-2.ensures record {
-      value = open-room v w b n c.if-session-ne-SIZE.false c.if-buf-n.false _ c.load_policy-policy.ensures _ (c.tag_length-t.ensures.0 ∙ ap tag_length_of c.load_suite.ensures) _ c.judge-header.ensures c.in-Read.h c.in-Read.is _ c.added.ensures.0 c.if-buf-n-2.true;
+      value = open-room v w b n c.if-session-ne-SIZE.false c.if-buf-n.false _ c.load_policy-policy.ensures _ (c.tag_length-t.ensures.0 ∙ ap tag_length_of c.load_suite.ensures) _ c.judge-header.ensures c.in-Ok.h c.in-Ok.is _ c.added.ensures.0 c.if-buf-n-2.true;
       opens_as = tt;
     }
 
@@ -52,7 +52,7 @@ in_stream-requires c =
     let n = c.args.n in
     let v = c.args.way in (
       c.if-session-ne-SIZE.false,
-      judged-long v _ _ b n c.in-Read.h c.if-buf-n.false (open-judged v w b n c.if-session-ne-SIZE.false c.if-buf-n.false _ c.load_policy-policy.ensures _ (c.tag_length-t.ensures.0 ∙ ap tag_length_of c.load_suite.ensures) _ c.judge-header.ensures c.in-Read.h c.in-Read.is _ c.added.ensures.0),
+      judged-long v _ _ b n c.in-Ok.h c.if-buf-n.false (open-judged v w b n c.if-session-ne-SIZE.false c.if-buf-n.false _ c.load_policy-policy.ensures _ (c.tag_length-t.ensures.0 ∙ ap tag_length_of c.load_suite.ensures) _ c.judge-header.ensures c.in-Ok.h c.in-Ok.is _ c.added.ensures.0),
     )
 
 pub returns : goal.returns
@@ -61,4 +61,4 @@ returns c =
     let b = c.args.buf.now in
     let n = c.args.n in
     let v = c.args.way in
-    record { value = open-stream v w b n c.if-session-ne-SIZE.false c.if-buf-n.false _ c.load_policy-policy.ensures _ (c.tag_length-t.ensures.0 ∙ ap tag_length_of c.load_suite.ensures) _ c.judge-header.ensures c.in-Read.h c.in-Read.is _ c.added.ensures.0 c.if-buf-n-2.false _ c.in_stream.ensures.value; opens_as = open-ready v w b n c.if-session-ne-SIZE.false c.if-buf-n.false _ c.load_policy-policy.ensures _ (c.tag_length-t.ensures.0 ∙ ap tag_length_of c.load_suite.ensures) _ c.judge-header.ensures c.in-Read.h c.in-Read.is _ c.added.ensures.0 c.if-buf-n-2.false _ c.in_stream.ensures.value c.in_stream.ensures.in_stream }
+    record { value = open-stream v w b n c.if-session-ne-SIZE.false c.if-buf-n.false _ c.load_policy-policy.ensures _ (c.tag_length-t.ensures.0 ∙ ap tag_length_of c.load_suite.ensures) _ c.judge-header.ensures c.in-Ok.h c.in-Ok.is _ c.added.ensures.0 c.if-buf-n-2.false _ c.in_stream.ensures.value; opens_as = open-ready v w b n c.if-session-ne-SIZE.false c.if-buf-n.false _ c.load_policy-policy.ensures _ (c.tag_length-t.ensures.0 ∙ ap tag_length_of c.load_suite.ensures) _ c.judge-header.ensures c.in-Ok.h c.in-Ok.is _ c.added.ensures.0 c.if-buf-n-2.false _ c.in_stream.ensures.value c.in_stream.ensures.in_stream }

@@ -8,16 +8,16 @@ pub returns-in_default : goal.returns-in_default
 returns-in_default c = is-refused _ _ _ _ _ _ c.tail.ensures c.read_header-header.ensures.value _ c.in_default.is
 
 pub returns-then-not-profile_fits : goal.returns-then-not-profile_fits
-returns-then-not-profile_fits c = no-profile _ _ _ _ _ _ c.tail.ensures c.read_header-header.ensures.value _ c.in-Read.is (sym c.profile_fits.ensures ∙ c.if-not-profile_fits.true)
+returns-then-not-profile_fits c = no-profile _ _ _ _ _ _ c.tail.ensures c.read_header-header.ensures.value _ c.in-Ok.is (sym c.profile_fits.ensures ∙ c.if-not-profile_fits.true)
 
 pub elements_fit-requires : goal.elements_fit-requires
-elements_fit-requires c = let o = rw c.in-Read.is at c.read_header-header.ensures.ordered in (o.1.1.0, omega (arith, o))
+elements_fit-requires c = let o = rw c.in-Ok.is at c.read_header-header.ensures.ordered in (o.1.1.0, omega (arith, o))
 
 pub returns-then-not-elements_fit : goal.returns-then-not-elements_fit
-returns-then-not-elements_fit c = no-elements _ _ _ _ _ _ c.tail.ensures c.read_header-header.ensures.value _ c.in-Read.is (sym c.profile_fits.ensures ∙ c.if-not-profile_fits.false) (sym c.elements_fit.ensures ∙ c.if-not-elements_fit.true)
+returns-then-not-elements_fit c = no-elements _ _ _ _ _ _ c.tail.ensures c.read_header-header.ensures.value _ c.in-Ok.is (sym c.profile_fits.ensures ∙ c.if-not-profile_fits.false) (sym c.elements_fit.ensures ∙ c.if-not-elements_fit.true)
 
 pub returns-then-added-packet : goal.returns-then-added-packet
-returns-then-added-packet c = too_large _ _ _ _ _ _ c.tail.ensures c.read_header-header.ensures.value _ c.in-Read.is (sym c.profile_fits.ensures ∙ c.if-not-profile_fits.false) (sym c.elements_fit.ensures ∙ c.if-not-elements_fit.false) (omega (arith, c.added.ensures, c.if-added-packet.true))
+returns-then-added-packet c = too_large _ _ _ _ _ _ c.tail.ensures c.read_header-header.ensures.value _ c.in-Ok.is (sym c.profile_fits.ensures ∙ c.if-not-profile_fits.false) (sym c.elements_fit.ensures ∙ c.if-not-elements_fit.false) (omega (arith, c.added.ensures, c.if-added-packet.true))
 
 pub returns : goal.returns
-returns c = all-fits _ _ _ _ _ _ c.tail.ensures c.read_header-header.ensures.value _ c.in-Read.is (sym c.profile_fits.ensures ∙ c.if-not-profile_fits.false) (sym c.elements_fit.ensures ∙ c.if-not-elements_fit.false) (omega (arith, c.added.ensures, c.if-added-packet.false))
+returns c = all-fits _ _ _ _ _ _ c.tail.ensures c.read_header-header.ensures.value _ c.in-Ok.is (sym c.profile_fits.ensures ∙ c.if-not-profile_fits.false) (sym c.elements_fit.ensures ∙ c.if-not-elements_fit.false) (omega (arith, c.added.ensures, c.if-added-packet.false))

@@ -3,8 +3,8 @@ use mathlib.Core.Path.{sym, ap}
 use Rattle.replay.specs.Answers.{told_of}
 use Rattle.replay.proofs.answer.tell.Goals as goal
 
-pub returns-in-Index : goal.returns-in-Index
-returns-in-Index c = sym (ap told_of c.in-Index.is)
+pub returns-in-Ok : goal.returns-in-Ok
+returns-in-Ok c = sym (ap told_of c.in-Ok.is)
 
-pub returns-in-Refused : goal.returns-in-Refused
-returns-in-Refused c = rw (c.in-Refused.is, c.number.ensures)
+pub returns-in-Err : goal.returns-in-Err
+returns-in-Err c = rw (c.in-Err.is, c.number.ensures)

@@ -1,5 +1,5 @@
 -- `rtp_header::header::header_number` meets its contract.
 use Rattle.rtp_header.proofs.header.header_number.Goals as goal
 
-pub returns-in-Refused : goal.returns-in-Refused
-returns-in-Refused c = rw c.in-Refused.is c.number.ensures
+pub returns-in-Err : goal.returns-in-Err
+returns-in-Err c = rw c.in-Err.is c.number.ensures

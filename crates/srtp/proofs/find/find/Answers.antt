@@ -24,35 +24,35 @@ returns-in_default c =
 
 pub slice_bounds-locate-count : goal.slice_bounds-locate-count
 slice_bounds-locate-count c =
-    let o = rw c.in-Read.is at c.read_header-header.ensures.ordered in o.1.1.0
+    let o = rw c.in-Ok.is at c.read_header-header.ensures.ordered in o.1.1.0
 
 pub slice_bounds-locate-start : goal.slice_bounds-locate-start
 slice_bounds-locate-start c =
-    let o = rw c.in-Read.is at c.read_header-header.ensures.ordered in omega (arith, o)
+    let o = rw c.in-Ok.is at c.read_header-header.ensures.ordered in omega (arith, o)
 
 pub slice_bounds-locate-end : goal.slice_bounds-locate-end
 slice_bounds-locate-end c =
-    let o = rw c.in-Read.is at c.read_header-header.ensures.ordered in omega (arith, o)
+    let o = rw c.in-Ok.is at c.read_header-header.ensures.ordered in omega (arith, o)
 
 pub returns-in_default-found : goal.returns-in_default-found
 returns-in_default-found c =
     let p = c.args.packet.now in
     let id = c.args.id in
-    let bytes = part_bytes c.in-Read.layout.block (c.in-Read.layout.payload - c.in-Read.layout.block) p (λ k. (c.shared_slice_known-1.given k).fits) in
+    let bytes = part_bytes c.in-Ok.layout.block (c.in-Ok.layout.payload - c.in-Ok.layout.block) p (λ k. (c.shared_slice_known-1.given k).fits) in
     let f = c.locate-found.result in
     c.no_part-in_default-found.ensures
     ∙ ap (λ (k : ℕ). record { number = k; begin = 0; length = 0 }) c.found_number.ensures
-    ∙ sym (ap found (read p id c.in-Read.layout f (sym c.read_header-header.ensures.value ∙ c.in-Read.is) (c.locate-found.ensures.value ∙ ap (located_of _ _) c.asked_id.ensures ∙ asked _ _ bytes id) ∙ refused-part f _ c.in_default-found.not-At))
+    ∙ sym (ap found (read p id c.in-Ok.layout f (sym c.read_header-header.ensures.value ∙ c.in-Ok.is) (c.locate-found.ensures.value ∙ ap (located_of _ _) c.asked_id.ensures ∙ asked _ _ bytes id) ∙ refused-part f _ c.in_default-found.not-At))
 
 pub overflow_add-result : goal.overflow_add-result
 overflow_add-result c =
     let p = c.args.packet.now in
     let id = c.args.id in
-    omega (arith, inside-packet p c.in-Read.layout _ _ (rw c.in-Read.is at c.read_header-header.ensures.ordered) c.locate-found.ensures.inside c.in-At.is)
+    omega (arith, inside-packet p c.in-Ok.layout _ _ (rw c.in-Ok.is at c.read_header-header.ensures.ordered) c.locate-found.ensures.inside c.in-At.is)
 
 pub returns : goal.returns
 returns c =
     let p = c.args.packet.now in
     let id = c.args.id in
-    let bytes = part_bytes c.in-Read.layout.block (c.in-Read.layout.payload - c.in-Read.layout.block) p (λ k. (c.shared_slice_known-1.given k).fits) in
-    sym (ap found (read p id c.in-Read.layout _ (sym c.read_header-header.ensures.value ∙ c.in-Read.is) (sym c.in-At.is ∙ (c.locate-found.ensures.value ∙ ap (located_of _ _) c.asked_id.ensures ∙ asked _ _ bytes id))))
+    let bytes = part_bytes c.in-Ok.layout.block (c.in-Ok.layout.payload - c.in-Ok.layout.block) p (λ k. (c.shared_slice_known-1.given k).fits) in
+    sym (ap found (read p id c.in-Ok.layout _ (sym c.read_header-header.ensures.value ∙ c.in-Ok.is) (sym c.in-At.is ∙ (c.locate-found.ensures.value ∙ ap (located_of _ _) c.asked_id.ensures ∙ asked _ _ bytes id))))

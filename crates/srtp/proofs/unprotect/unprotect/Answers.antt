@@ -9,8 +9,8 @@ returns-in_default c =
 
 pub unprotect_stream-requires : goal.unprotect_stream-requires
 unprotect_stream-requires c =
-    rw c.in-Read.is at c.open-opened.ensures.opens_as
+    rw c.in-Ok.is at c.open-opened.ensures.opens_as
 
 pub returns : goal.returns
 returns c =
-    stepped-gives c.args.session.now c.args.buf.now c.args.n Receiving _ c.open-opened.ensures.value _ c.in-Read.is _ _ _ c.unprotect_stream.ensures
+    stepped-gives c.args.session.now c.args.buf.now c.args.n Receiving _ c.open-opened.ensures.value _ c.in-Ok.is _ _ _ c.unprotect_stream.ensures
