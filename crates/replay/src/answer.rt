@@ -5,7 +5,8 @@ ghost use Rattle.replay.specs.Answers.{told_of};
 use bits::refusal;
 use bits::refusal::Refusal;
 
-// The answer in document 01's terms: its number, and the index, which is 0 with a refusal.
+// The answer in document 01's terms: its number, and the index, which is 0 with a refusal. Two numbers and no `Result`, since that document's ledger
+// lists its answers so.
 #[derive(Clone, Copy)]
 pub struct Told {
     pub number: u8,
@@ -18,7 +19,7 @@ pub fn tell(judged: Result<u64, Refusal>) -> Told
     match judged {
         Ok(index) => Told {
             number: 0,
-            index: index,
+            index,
         },
         Err(refusal) => Told {
             number: refusal::number(refusal),
