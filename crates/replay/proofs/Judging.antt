@@ -1,20 +1,17 @@
 -- The answers of the definitions, one law for each way to an answer.
 use Rattle.std.specs.Prelude.{Ok, Err}
-use mathlib.Core.Path.{◌≡◌, sym, ◌∙◌}
+use mathlib.Core.Path.{◌≡◌, ◌∙◌}
 use mathlib.Core.Bool.{true, false}
-use Prim.Native.Nat.{ℕ, ◌+◌, ◌-◌, ◌*◌, ◌^◌, ◌<◌, ◌≤◌}
-use native.Mathlib.Decide.{dec_lt}
-use native.Mathlib.Omega.{arith}
+use Prim.Native.Nat.{ℕ, ◌+◌, ◌*◌, ◌^◌, ◌<◌, ◌≤◌}
 use borrow.Author.Tests.{lt-leb, le-leb}
 use lib.Dec.{leb}
-use lib.IntN.{ℤ, pos, sub_ℕ}
+use lib.IntN.{ℤ, pos}
 use Rattle.bits.specs.declared.refusal.Refusal.TheVariants as refusal
 use Rattle.replay.specs.State.{ReplayState, judge_of, accept_of, after_of}
 use Rattle.replay.specs.Guess.{guess_of, distance_of}
 use Rattle.replay.specs.Window.{seen_in}
 use Rattle.replay.specs.Receive.{judge_index, receive_of}
 use Rattle.replay.specs.Send.{step_of, stepped_of, next_of}
-use Rattle.replay.proofs.Differences.{below, lands}
 
 module _ (b W : ℕ) (s : ReplayState) (i : ℕ) where
   pub first_taken : s.started ≡ false → judge_of b W s i ≡ Ok i
