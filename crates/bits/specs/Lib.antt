@@ -4,4 +4,3 @@ pub mod Bits
 pub mod Xor
 pub mod BigEndian
 pub mod Refusals
-pub mod Portion

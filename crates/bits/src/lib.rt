@@ -4,5 +4,4 @@
 
 pub mod arrays;
 pub mod big_endian;
-pub mod portion;
 pub mod refusal;

@@ -18,7 +18,7 @@ pub fn tell(judged: Result<u64, Refusal>) -> Told
     match judged {
         Ok(index) => Told { number: 0, index },
         Err(refusal) => Told {
-            number: u8::from(refusal),
+            number: bits::refusal::number(refusal),
             index: 0,
         },
     }
