@@ -1,7 +1,6 @@
 // What the calls give back.
-ghost use Rattle.std.specs.Prelude.{◌≡◌, Result, Ok, Err};
+ghost use Rattle.std.specs.Prelude.{◌≡◌, MatchResult};
 ghost use Rattle.bits.specs.Refusals.{number_of};
-ghost use Rattle.session.specs.Answers.{answer_of};
 
 use bits::refusal::Refusal;
 
@@ -14,13 +13,13 @@ pub struct Answer {
 }
 
 impl From<Result<usize, Refusal>> for Answer {
-    ghost from_gives = { λ answer given. given ≡ answer_of answer };
+    ghost from_gives = { λ answer given. MatchResult answer (λ length. given ≡ record { number = 0; length = length }) (λ refusal. given ≡ record { number = number_of refusal; length = 0 }) };
 
     fn from(answer: Result<usize, Refusal>) -> Answer {
         match answer {
             Ok(length) => Answer { number: 0, length },
             Err(refusal) => Answer {
-                number: u32::from(refusal),
+                number: u32::from(bits::refusal::number(refusal)),
                 length: 0,
             },
         }

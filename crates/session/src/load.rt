@@ -8,7 +8,6 @@ ghost use Rattle.session.specs.Memory.{is_mark, suite_at, policy_at, size, setup
 use crate::layout::{
     CIPHER, HASH, HEADER_CIPHER, HEADER_SALT, IDS, INNER, MARK, OUTER, SALT, SIZE,
 };
-use bits::arrays::array;
 use hmac::key::KeyStates;
 use memory::words::bytes;
 use packet_cipher::keys::Keys;
@@ -101,5 +100,7 @@ pub fn keys_of(session: &[u64; SIZE]) -> Keys
 pub fn ids_of(session: &[u64; SIZE]) -> [u64; 4]
     ensures { result ≡ (setup_at session.now).ids }
 {
-    array(&session[IDS..CIPHER])
+    let mut ids = [0u64; 4];
+    ids.copy_from_slice(&session[IDS..CIPHER]);
+    ids
 }
