@@ -1,6 +1,6 @@
 // What the calls give back.
-ghost use Rattle.std.specs.Prelude.{◌≡◌, MatchResult};
-ghost use Rattle.bits.specs.Refusals.{number_of};
+ghost use Rattle.std.specs.Prelude.{◌≡◌};
+ghost use Rattle.session.specs.Answers.{answer_of};
 
 use bits::refusal::Refusal;
 
@@ -13,7 +13,7 @@ pub struct Answer {
 }
 
 impl From<Result<usize, Refusal>> for Answer {
-    ghost from_gives = { λ answer given. MatchResult answer (λ length. given ≡ record { number = 0; length = length }) (λ refusal. given ≡ record { number = number_of refusal; length = 0 }) };
+    ghost from_gives = { λ answer given. given ≡ answer_of answer };
 
     fn from(answer: Result<usize, Refusal>) -> Answer {
         match answer {
