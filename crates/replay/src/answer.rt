@@ -18,7 +18,7 @@ pub fn tell(judged: Result<u64, Refusal>) -> Told
     match judged {
         Ok(index) => Told { number: 0, index },
         Err(refusal) => Told {
-            number: bits::refusal::number(refusal),
+            number: u8::from(refusal),
             index: 0,
         },
     }
