@@ -10,8 +10,7 @@ use borrow.Author.Tests.{eq-eqb, le-ltb}
 use lib.ListN.{length, take}
 use Rattle.bits.specs.Refusals.{number_of}
 use Rattle.rtp_elements.specs.Mask.{among}
-use Rattle.rtp_elements.specs.declared.element.Found.{Found as Located}
-use Rattle.rtp_elements.specs.declared.element.Found.TheVariants.{At, Absent as NotThere, Past}
+use Rattle.rtp_elements.specs.declared.element.Element.{Element}
 use Rattle.rtp.specs.Finding.{located_of, Part, part_of, found_in, find_of}
 use Rattle.rtp_header.specs.Header.{block_of, header_of, ssrc_of}
 use Rattle.policies.specs.declared.policy.Way.{Way}
@@ -90,9 +89,8 @@ record Finds (p : Part) : Type 0 where
   number : among (0 ∷ 2 ∷ 3 ∷ 4 ∷ 6 ∷ 19 ∷ []) p.number ≡ true
   none : (p.number ≡ 0 → ⊥) → p.length ≡ 0
 
-part-finds : (block : ℕ) (f : Located) → Finds (part_of block f)
-part-finds block (At e) = record { number = refl; none = λ z. absurd (z refl) }
-part-finds block NotThere = record { number = refl; none = λ z. refl }
+part-finds : (block : ℕ) (f : Result Element Refusal) → Finds (part_of block f)
+part-finds block (Ok e) = record { number = refl; none = λ z. absurd (z refl) }
 part-finds block Past = record { number = refl; none = λ z. refl }
 
 in-finds : (p : List ℕ) (id : ℕ) (h : Result Layout Refusal) → HeaderIn (2 ∷ 3 ∷ 4 ∷ []) h → Finds (found_in p id h)
