@@ -48,7 +48,7 @@ module _ (listed : ℕ → Bool) (tag : ℕ) (pad : ℕ → ℕ) where
   masking-ok block₀ block i m = go (next_of tag block i) refl
     where
       go : (f : Result (Option Element) Refusal) → next_of tag block i ≡ f → IsOk f
-      go (Ok a) q = tt
+      go (Ok a) q = refl
       go (Err r) q = absurd (true≢false (sym m.whole ∙ next_past tag block i r q))
 
   module _ (block₀ block : List ℕ) (i : ℕ) (e : Element) (m : Masking block₀ block i) (s : Stepped tag block i e) where
