@@ -4,10 +4,10 @@ ghost use Rattle.rtp_elements.specs.Elements.{Length, Between, two_byte, has_ele
 ghost use Rattle.rtp_elements.specs.Numbers.{found_number};
 ghost use Rattle.rtp_elements.specs.Next.{next_by, next_of};
 
-use bits::refusal::{Refusal, number};
+use bits::refusal::Refusal;
 
 // An element: its id, where in the block its data begins, and the data's length.
-#[derive(Clone, Copy)]
+#[derive(Clone, Copy, Debug, PartialEq, Eq)]
 pub struct Element {
     pub id: u8,
     pub begin: usize,
@@ -117,6 +117,6 @@ pub fn found_number(found: Result<Element, Refusal>) -> u8
 {
     match found {
         Ok(_) => 0,
-        Err(refusal) => number(refusal),
+        Err(refusal) => u8::from(refusal),
     }
 }
