@@ -1,7 +1,7 @@
--- `sha1_compress::compress::four` meets its contract: four steps of one stage.
+-- `sha1_compress::compress::Working::four` meets its contract: four steps of one stage.
 use Rattle.std.proofs.Common.{◌+◌, arith}
 use Rattle.sha1_compress.proofs.Turns.{held}
-use Rattle.sha1_compress.proofs.compress.four.Goals as goal
+use Rattle.sha1_compress.proofs.compress.Working.four.Goals as goal
 
 pub returns : goal.returns
 returns c = λ h m t l b e g er.
