@@ -24,11 +24,8 @@ pub fn mac(states: KeyStates, message: &[u8], tail: &[u8]) -> [u8; 20]
     requires { (length tail.now ≤ 56) × (length message.now < 2 ^ 59) }
     ensures { result ≡ mac_of states (message.now ++ tail.now) }
 {
-    let i = states.inner;
-    let o = states.outer;
-    let h = finish(i, 64, message, tail);
-    let w = last_block(h);
-    let e = compress(o, w);
+    let h = finish(states.inner, 64, message, tail);
+    let e = compress(states.outer, last_block(h));
     digest(e)
 }
 
