@@ -71,7 +71,7 @@ impl Working {
     }
 
     // Steps t to t + 3, all in one stage: four turns.
-    // (Turns are written out, and not counted by a `for`: LOOPNOTE)
+    // (Written out, here and in `twenty`: counted by a `for` the compiler keeps the loop, and a message of 1,200 bytes takes 42,900 instructions in place of 29,700.)
     fn four(self, stage: Stage) -> Working
         ensures { (h m : List ℕ) (t : ℕ) → length m ≡ 16 → t + 3 < 64 → t / 20 ≡ stage_number stage → (t + 3) / 20 ≡ stage_number stage → self ≡ working_at h m t → result ≡ working_at h m (t + 4) }
     {
