@@ -33,7 +33,7 @@ pub fn xor_from(blocks: &Blocks<'_>, from: usize, buf: &mut [u8], portion: Porti
 // The keystream of a packet from its first byte on, by key, salt, SSRC and index. The tables are lent: they are written to the stack anew wherever they are made,
 // and under the mask a packet has two keystreams.
 pub fn xor_portion(
-    tables: &Tables,
+    tables: Tables<'_>,
     key: [u8; 16],
     salt: [u8; 14],
     ssrc: u32,

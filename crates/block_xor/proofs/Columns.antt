@@ -5,16 +5,23 @@ use Prim.Native.Nat.{ℕ, ◌+◌, ◌-◌, ◌≤◌, ◌<◌}
 use native.Mathlib.Decide.{dec_lt}
 use native.Mathlib.Nat.{zero-add}
 use native.Mathlib.Omega.{arith}
-use lib.ListN.{length, get_or, take, drop, length-drop}
+use lib.ListN.{length, get_or, set, take, drop, length-drop}
 use lib.Seq.{length-take-le}
 use Rattle.std.proofs.lemmas.List.{get_or-drop, get_or-take, get_or_past}
 use Rattle.bits.specs.BigEndian.{from_bytes, to_bytes}
 use Rattle.bits.specs.Xor.{◌⊕◌, xor_pad, xor_list}
 use Rattle.bits.proofs.BigEndian.{to-from}
 use Rattle.bits.proofs.Bytes.{are-bytes}
+use Rattle.bits.proofs.Lists.{tabulated}
 use Rattle.bits.proofs.Xor.{to-xor, length-pad, pad-ext}
 use Rattle.stretches.specs.Stretch.{stretch_pad}
 use Rattle.stretches.proofs.Stretches.{at_in, stretch-done, stretch-part, stretch-join}
+
+-- four stores replace a list of four
+pub stored : (l b : List ℕ) → length l ≡ 4 → length b ≡ 4
+    → set (set (set (set l 0 (get_or b 0 0)) 1 (get_or b 1 0)) 2 (get_or b 2 0)) 3 (get_or b 3 0) ≡ b
+stored l b m n =
+    ap (λ (x : List ℕ). set (set (set (set x 0 (get_or b 0 0)) 1 (get_or b 1 0)) 2 (get_or b 2 0)) 3 (get_or b 3 0)) (sym (tabulated 0 4 l m)) ∙ tabulated 0 4 b n
 
 -- as the code makes them
 pub summed : (part block word b : List ℕ) (from x y : ℕ) → length part ≡ 4 → from + 4 ≤ length block → ((k : ℕ) → get_or part k 0 < 256) → ((k : ℕ) → get_or block k 0 < 256)

@@ -8,7 +8,7 @@ use aes::blocks::{Cipher, round_keys};
 use aes_counter::start::packet_start;
 use aes_keystream::keystream::xor_stretch;
 use aes_keystream::seek::seek;
-use aes_tables::tables::Tables;
+use aes_tables::tables::{self, Tables};
 use bits::refusal::Refusal;
 
 // The bytes of keystream that RFC 3711 allows one packet index.
@@ -34,10 +34,15 @@ fn stretch_within(
     requires { is_large start (length buf.old) ≡ false }
     ensures { buf.new ≡ (stretch_of key salt ssrc index start buf.old).bytes }
 {
-    let tables = Tables::new();
-    let keys = round_keys(&tables, key);
+    let sbox = tables::sbox();
+    let round = tables::round_table();
+    let tables = Tables {
+        sbox: &sbox,
+        round: &round,
+    };
+    let keys = round_keys(tables, key);
     let cipher = Cipher {
-        tables: &tables,
+        tables,
         keys: &keys,
         key,
     };
