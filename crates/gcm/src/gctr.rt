@@ -9,7 +9,7 @@ ghost use Rattle.gcm.specs.Steps.{base_of, sealed_of};
 use crate::counter::{TEXT, start};
 use aes::blocks::{Cipher, round_keys};
 use aes_cm::portion::xor_from;
-use aes_tables::tables::Tables;
+use aes_tables::tables::{self, Tables};
 use bits::portion::Portion;
 
 // The keystream of the counter blocks, from any byte `from` of it on. The cipher's tables lie in this function's own frame, and are gone when it returns.
@@ -17,10 +17,15 @@ pub fn crypt_from(key: [u8; 16], iv: [u8; 12], from: usize, buf: &mut [u8], port
     requires { (portion.rest ≤ length buf.old) × (from + length buf.old ≤ keystream_end) }
     ensures { buf.new ≡ xor_pad (portion_pad portion.first portion.stop portion.rest (λ k. byte_from key (base_of iv) (from + k))) buf.old }
 {
-    let tables = Tables::new();
-    let keys = round_keys(&tables, key);
+    let sbox = tables::sbox();
+    let round = tables::round_table();
+    let tables = Tables {
+        sbox: &sbox,
+        round: &round,
+    };
+    let keys = round_keys(tables, key);
     let cipher = Cipher {
-        tables: &tables,
+        tables,
         keys: &keys,
         key,
     };
