@@ -15,7 +15,7 @@ use aes_tables::tables::Tables;
 // made yet of a struct that holds the round keys itself, arrays of arrays of bytes.
 #[derive(Clone, Copy)]
 pub struct Cipher<'a> {
-    pub tables: &'a Tables,
+    pub tables: Tables<'a>,
     pub keys: &'a [[[u8; 4]; 4]; 11],
     pub key: [u8; 16],
     pub ghost expanded: { keys.now ≡ round_keys_of (state_of key) },
@@ -53,7 +53,7 @@ fn bytes(s: [[u8; 4]; 4]) -> [u8; 16]
 }
 
 // The round keys of a key, to be lent.
-pub fn round_keys(tables: &Tables, key: [u8; 16]) -> [[[u8; 4]; 4]; 11]
+pub fn round_keys(tables: Tables<'_>, key: [u8; 16]) -> [[[u8; 4]; 4]; 11]
     ensures { result ≡ round_keys_of (state_of key) }
 {
     expand(tables, state(key))

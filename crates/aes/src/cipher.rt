@@ -8,11 +8,11 @@ use aes_begin::begin::{Begun, begin, first_round, second_round};
 use aes_columns::column::add_round_key;
 use aes_keys::key_schedule;
 use aes_rounds::round::{last_round, round};
-use aes_tables::tables::Tables;
+use aes_tables::tables::{self, Tables};
 
 // The cipher on a block that was begun. The rounds stand in a line: a loop over the round keys costs a quarter more.
 pub fn encrypt(
-    tables: &Tables,
+    tables: Tables<'_>,
     keys: &[[[u8; 4]; 4]; 11],
     begun: Begun,
     block: [[u8; 4]; 4],
@@ -37,8 +37,13 @@ pub fn encrypt(
 pub fn aes128(key: [[u8; 4]; 4], block: [[u8; 4]; 4]) -> [[u8; 4]; 4]
     ensures { result ≡ aes128_of key block }
 {
-    let tables = Tables::new();
-    let keys = key_schedule::expand(&tables, key);
-    let begun = begin(&tables, add_round_key(block, keys[0]), keys[1], keys[2]);
-    encrypt(&tables, &keys, begun, block)
+    let sbox = tables::sbox();
+    let round = tables::round_table();
+    let tables = Tables {
+        sbox: &sbox,
+        round: &round,
+    };
+    let keys = key_schedule::expand(tables, key);
+    let begun = begin(tables, add_round_key(block, keys[0]), keys[1], keys[2]);
+    encrypt(tables, &keys, begun, block)
 }

@@ -20,7 +20,7 @@ pub struct Begun {
 }
 
 // What the states have in common that begin as s does, under the round keys k and l: its last two bytes do not matter.
-pub fn begin(tables: &Tables, s: [[u8; 4]; 4], k: [[u8; 4]; 4], l: [[u8; 4]; 4]) -> Begun
+pub fn begin(tables: Tables<'_>, s: [[u8; 4]; 4], k: [[u8; 4]; 4], l: [[u8; 4]; 4]) -> Begun
     ensures { Begins s k l result }
 {
     let first = first_columns(tables, s, k);
@@ -35,7 +35,7 @@ pub fn begin(tables: &Tables, s: [[u8; 4]; 4], k: [[u8; 4]; 4], l: [[u8; 4]; 4])
 }
 
 // The first round of a state that was begun.
-pub fn first_round(tables: &Tables, s: [[u8; 4]; 4], begun: Begun) -> [[u8; 4]; 4]
+pub fn first_round(tables: Tables<'_>, s: [[u8; 4]; 4], begun: Begun) -> [[u8; 4]; 4]
     ensures { (k l : List (List ℕ)) → Begins s k l begun → result ≡ round_of s k }
 {
     let last = s[3];
@@ -48,7 +48,7 @@ pub fn first_round(tables: &Tables, s: [[u8; 4]; 4], begun: Begun) -> [[u8; 4]; 
 }
 
 // The second round, of the state that the first has left.
-pub fn second_round(tables: &Tables, s: [[u8; 4]; 4], begun: Begun) -> [[u8; 4]; 4]
+pub fn second_round(tables: Tables<'_>, s: [[u8; 4]; 4], begun: Begun) -> [[u8; 4]; 4]
     ensures { (t k l : List (List ℕ)) → Begins t k l begun → s ≡ round_of t k → result ≡ round_of s l }
 {
     let [p, q, _, _] = s;

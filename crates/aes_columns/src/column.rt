@@ -9,7 +9,7 @@ use aes_keys::word;
 use aes_tables::tables::Tables;
 
 // What x brings in row R. Its four bytes stand in its entry from byte 0, 3, 2 or 1 on.
-pub fn row<const R: usize>(tables: &Tables, x: u8) -> u32
+pub fn row<const R: usize>(tables: Tables<'_>, x: u8) -> u32
     requires { R < 4 }
     ensures { unpack_of result ≡ row_of R (sbox_of x) }
 {
@@ -19,7 +19,7 @@ pub fn row<const R: usize>(tables: &Tables, x: u8) -> u32
 
 // The whole column: SubBytes, MixColumns and AddRoundKey, for the four bytes that ShiftRows brings together. The order of the sum
 // is the fastest of those that were tried.
-pub fn round_column(tables: &Tables, a: u8, b: u8, c: u8, d: u8, k: [u8; 4]) -> [u8; 4]
+pub fn round_column(tables: Tables<'_>, a: u8, b: u8, c: u8, d: u8, k: [u8; 4]) -> [u8; 4]
     ensures { result ≡ xor_list (mix_column (sbox_of a) (sbox_of b) (sbox_of c) (sbox_of d)) k }
 {
     word::unpack(row::<0>(tables, a) ^ word::pack(k) ^ row::<3>(tables, d) ^ row::<1>(tables, b) ^ row::<2>(tables, c))

@@ -7,7 +7,7 @@ use crate::word;
 use aes_tables::tables::Tables;
 
 // The round key after k; x is the first byte of its round constant.
-fn next_key(tables: &Tables, k: [[u8; 4]; 4], x: u8) -> [[u8; 4]; 4]
+fn next_key(tables: Tables<'_>, k: [[u8; 4]; 4], x: u8) -> [[u8; 4]; 4]
     ensures { result ≡ next_key_of k x }
 {
     let last = k[3];
@@ -21,7 +21,7 @@ fn next_key(tables: &Tables, k: [[u8; 4]; 4], x: u8) -> [[u8; 4]; 4]
 }
 
 // The eleven round keys of a key. The numbers are the powers of x in the field.
-pub fn expand(tables: &Tables, key: [[u8; 4]; 4]) -> [[[u8; 4]; 4]; 11]
+pub fn expand(tables: Tables<'_>, key: [[u8; 4]; 4]) -> [[[u8; 4]; 4]; 11]
     ensures { result ≡ round_keys_of key }
 {
     let k1 = next_key(tables, key, 0x01);

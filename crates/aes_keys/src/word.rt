@@ -13,7 +13,7 @@ pub fn xor(a: [u8; 4], b: [u8; 4]) -> [u8; 4]
 }
 
 // Each byte through the S-box.
-pub fn substitute(tables: &Tables, a: [u8; 4]) -> [u8; 4]
+pub fn substitute(tables: Tables<'_>, a: [u8; 4]) -> [u8; 4]
     ensures { result ≡ sub_word a }
 {
     a.map(|x| tables.sbox[x as usize])

@@ -6,7 +6,7 @@ use aes_columns::column::{add_round_key, round_column};
 use aes_keys::word;
 use aes_tables::tables::Tables;
 
-pub fn round(tables: &Tables, s: [[u8; 4]; 4], k: [[u8; 4]; 4]) -> [[u8; 4]; 4]
+pub fn round(tables: Tables<'_>, s: [[u8; 4]; 4], k: [[u8; 4]; 4]) -> [[u8; 4]; 4]
     ensures { result ≡ round_of s k }
 {
     let [a, b, c, d] = s;
@@ -19,7 +19,7 @@ pub fn round(tables: &Tables, s: [[u8; 4]; 4], k: [[u8; 4]; 4]) -> [[u8; 4]; 4]
 }
 
 // The last round mixes no columns.
-pub fn last_round(tables: &Tables, s: [[u8; 4]; 4], k: [[u8; 4]; 4]) -> [[u8; 4]; 4]
+pub fn last_round(tables: Tables<'_>, s: [[u8; 4]; 4], k: [[u8; 4]; 4]) -> [[u8; 4]; 4]
     ensures { result ≡ last_round_of s k }
 {
     let [a, b, c, d] = s;

@@ -8,7 +8,7 @@ use aes_keys::word;
 use aes_tables::tables::Tables;
 
 // Columns 0 and 1 after the first round.
-pub fn first_columns(tables: &Tables, s: [[u8; 4]; 4], k: [[u8; 4]; 4]) -> [u32; 2]
+pub fn first_columns(tables: Tables<'_>, s: [[u8; 4]; 4], k: [[u8; 4]; 4]) -> [u32; 2]
     ensures { FirstColumns s k result }
 {
     let [a, b, c, _] = s;
@@ -18,7 +18,7 @@ pub fn first_columns(tables: &Tables, s: [[u8; 4]; 4], k: [[u8; 4]; 4]) -> [u32;
 }
 
 // Columns 2 and 3 after the first round, which the last two bytes do not reach.
-pub fn whole_columns(tables: &Tables, s: [[u8; 4]; 4], k: [[u8; 4]; 4]) -> [[u8; 4]; 2]
+pub fn whole_columns(tables: Tables<'_>, s: [[u8; 4]; 4], k: [[u8; 4]; 4]) -> [[u8; 4]; 2]
     ensures { result ≡ get_or (round_of s k) 2 [] ∷ get_or (round_of s k) 3 [] ∷ [] }
 {
     let [a, b, c, d] = s;
@@ -29,7 +29,7 @@ pub fn whole_columns(tables: &Tables, s: [[u8; 4]; 4], k: [[u8; 4]; 4]) -> [[u8;
 }
 
 // The columns after the second round, from columns 2 and 3 before it.
-pub fn second_columns(tables: &Tables, u: [u8; 4], v: [u8; 4], k: [[u8; 4]; 4]) -> [u32; 4]
+pub fn second_columns(tables: Tables<'_>, u: [u8; 4], v: [u8; 4], k: [[u8; 4]; 4]) -> [u32; 4]
     ensures { SecondColumns u v k result }
 {
     let e = row::<2>(tables, u[2]) ^ row::<3>(tables, v[3]) ^ word::pack(k[0]);

@@ -22,20 +22,23 @@ const SBOX: [u8; 256] = *b"\
     \xe1\xf8\x98\x11\x69\xd9\x8e\x94\x9b\x1e\x87\xe9\xce\x55\x28\xdf\
     \x8c\xa1\x89\x0d\xbf\xe6\x42\x68\x41\x99\x2d\x0f\xb0\x54\xbb\x16";
 
-// The S-box, which the last round and the key schedule read, and the table of the other rounds.
-#[derive(Drop)]
-pub struct Tables {
-    pub sbox: [u8; 256],
-    pub round: [u8; 2048],
-    pub ghost sbox_rule: { SboxTable sbox },
-    pub ghost round_rule: { RoundTable round },
+// The S-box, which the last round and the key schedule read, and the table of the other rounds; both lent.
+#[derive(Clone, Copy)]
+pub struct Tables<'a> {
+    pub sbox: &'a [u8; 256],
+    pub round: &'a [u8; 2048],
+    pub ghost sbox_rule: { SboxTable sbox.now },
+    pub ghost round_rule: { RoundTable round.now },
 }
 
-impl Tables {
-    pub fn new() -> Tables {
-        Tables {
-            sbox: SBOX,
-            round: ENTRIES,
-        }
-    }
+pub fn sbox() -> [u8; 256]
+    ensures { SboxTable result }
+{
+    SBOX
+}
+
+pub fn round_table() -> [u8; 2048]
+    ensures { RoundTable result }
+{
+    ENTRIES
 }
