@@ -7,7 +7,7 @@ ghost use Rattle.session.specs.Memory.{record_words, is_mark, decode};
 ghost use Rattle.session.specs.Places.{free_from};
 ghost use Rattle.session.specs.Records.{fresh_record, has_ssrc};
 
-use bits::refusal::{MEMORY, Refusal, WAY, number};
+use bits::refusal::{MEMORY, Refusal, WAY};
 use policies::policy::Way;
 use records::places::{free_place, has_ssrc, head_word};
 use records::tracks::record_place;
@@ -64,6 +64,6 @@ pub fn add(session: &mut [u64], ssrc: u32, way: u32, rollover: u32) -> u32
             session[at..at + EACH].copy_from_slice(&fresh_record(ssrc, way, rollover));
             0
         }
-        Err(refusal) => u32::from(number(refusal)),
+        Err(refusal) => u32::from(refusal),
     }
 }

@@ -8,21 +8,21 @@ ghost use Rattle.suites.specs.Suites.{suite_of};
 ghost use Rattle.making.specs.Steps.{make_number};
 
 use crate::ids::flags;
-use bits::arrays::{array16, filled14};
-use bits::refusal::{MEMORY, Refusal, SUITE, number};
+use bits::arrays::{array, filled};
+use bits::refusal::{MEMORY, Refusal, SUITE};
 use session::layout::{FRONT, SIZE};
 use setup_words::keys::session_keys;
 use setup_words::words::front_words;
-use suites::suite::{Suite, last_policy, salt_length, suite_of};
+use suites::suite::Suite;
 
 // A key and a salt of these lengths and a policy, judged.
 fn judge(suite: Suite, key: usize, salt: usize, policy: u64) -> Result<(), Refusal>
     ensures { MatchResult result (λ _. make_number suite key salt policy ≡ 0) (λ r. (make_number suite key salt policy ≡ number_of r) × (0 < number_of r)) }
 {
-    if key != 16 || salt != salt_length(suite) {
+    if key != 16 || salt != suite.salt_length() {
         return Err(Refusal::Keys);
     }
-    if last_policy(suite) < policy {
+    if suite.last_policy() < policy {
         return Err(Refusal::Policy);
     }
     Ok(())
@@ -48,12 +48,12 @@ pub fn make(
         return SUITE;
     }
     session.fill(0);
-    let suite = suite_of(u64::from(suite));
+    let suite = Suite::from(u64::from(suite));
     if let Err(refusal) = judge(suite, key.len(), salt.len(), policy) {
-        return u32::from(number(refusal));
+        return u32::from(refusal);
     }
-    let key = array16(key);
-    let salt = filled14(salt);
+    let key = array(key);
+    let salt = filled(salt);
     let keys = session_keys(key, salt);
     let front = front_words(suite, policy, key, salt, flags(ids), keys);
     session[..FRONT].copy_from_slice(&front);

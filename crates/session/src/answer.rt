@@ -19,7 +19,7 @@ impl From<Result<usize, Refusal>> for Answer {
         match answer {
             Ok(length) => Answer { number: 0, length },
             Err(refusal) => Answer {
-                number: u32::from(bits::refusal::number(refusal)),
+                number: u32::from(refusal),
                 length: 0,
             },
         }

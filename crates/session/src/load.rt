@@ -13,7 +13,7 @@ use memory::words::bytes;
 use packet_cipher::keys::Keys;
 use policies::policy::Policy;
 use std::array::from_fn;
-use suites::suite::{Suite, suite_of};
+use suites::suite::Suite;
 
 // A made session has this first word.
 pub fn is_made(first: u64) -> bool
@@ -49,7 +49,7 @@ pub fn load_suite(first: u64) -> Suite
     ensures { result ≡ suite_at first }
 {
     if is_made(first) {
-        suite_of((first - MARK) / 4)
+        Suite::from((first - MARK) / 4)
     } else {
         Suite::CmHmac
     }

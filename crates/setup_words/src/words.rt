@@ -11,7 +11,7 @@ use session::layout::{
     CIPHER, FRONT, HASH, HEADER_CIPHER, HEADER_SALT, IDS, INNER, MARK, MASTER_KEY, MASTER_SALT,
     OUTER, SALT,
 };
-use suites::suite::{Suite, suite_number};
+use suites::suite::Suite;
 
 // A state of HMAC, a number to a word.
 fn wide(state: [u32; 5]) -> [u64; 5]
@@ -42,7 +42,7 @@ pub fn front_words(
     ensures { Stored (setup_with suite policy key salt ids keys) (with_part 0 result (replicate size 0)) }
 {
     let mut words = [0u64; FRONT];
-    words[0] = MARK + (policy + 4 * suite_number(suite));
+    words[0] = MARK + (policy + 4 * u64::from(suite));
     put(&mut words, MASTER_KEY, &halves(&key));
     put(&mut words, MASTER_SALT, &halves(&salt));
     put(&mut words, IDS, &ids);
