@@ -9,7 +9,7 @@ ghost use Rattle.making.specs.Steps.{make_number};
 
 use crate::ids::flags;
 use bits::arrays::{array, filled};
-use bits::refusal::{MEMORY, Refusal, SUITE};
+use bits::refusal::{Border, Refusal};
 use session::layout::{FRONT, SIZE};
 use setup_words::keys::session_keys;
 use setup_words::words::front_words;
@@ -42,10 +42,10 @@ pub fn make(
     ensures session_after { length session.old ≡ size → suite < 2 → decode session.new ≡ (make_of (suite_of suite) key.now salt.now policy ids.now).session }
 {
     if session.len() != SIZE {
-        return MEMORY;
+        return u32::from(Border::Memory);
     }
     if 1 < suite {
-        return SUITE;
+        return u32::from(Border::Suite);
     }
     session.fill(0);
     let suite = Suite::from(u64::from(suite));

@@ -3,7 +3,7 @@ ghost use Rattle.std.specs.Prelude.{◌≡◌, Err};
 ghost use Rattle.bits.specs.Refusals.{wrong_memory, number_of};
 ghost use Rattle.bits.specs.declared.refusal.Refusal.{Refusal};
 
-use bits::refusal::{MEMORY, Refusal};
+use bits::refusal::{Border, Refusal};
 use front::open::Opened;
 use session::answer::Answer;
 
@@ -12,7 +12,7 @@ pub(crate) fn wrong_memory() -> Answer
     ensures { result ≡ record { number = wrong_memory; length = 0 } }
 {
     Answer {
-        number: MEMORY,
+        number: u32::from(Border::Memory),
         length: 0,
     }
 }
