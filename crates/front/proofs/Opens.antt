@@ -22,7 +22,7 @@ use Rattle.session.specs.Places.{place_from}
 use Rattle.records.specs.Tracks.{record_in, judged_by}
 use Rattle.policies.proofs.Layouts.{apart}
 use Rattle.front.specs.declared.open.Opened.{Opened}
-use Rattle.front.specs.Opening.{open_index, open_at, stream_of, open_of, InStream, OpensAs}
+use Rattle.front.specs.Opening.{open_index, open_at, stream_of, in_session_of, InStream, OpensAs}
 
 -- a packet that was judged has its fixed header, and one that arrived its tag
 module _ (way : Way) (policy : Policy) (t : ℕ) (buf : List ℕ) (n : ℕ) (h : Layout) (inside : n ≤ length buf) (read : judged_of way policy t (take n buf) ≡ Ok h) where
@@ -36,8 +36,8 @@ module _ (way : Way) (policy : Policy) (t : ℕ) (buf : List ℕ) (n : ℕ) (h :
   judged-whole = omega (arith, whole, length-take-le n buf inside)
 
 module _ (way : Way) (words buf : List ℕ) (n : ℕ) where
-  pub open-length : length buf < n → Err refusal.Length ≡ open_of way words buf n
-  unfolding open_of
+  pub open-length : length buf < n → Err refusal.Length ≡ in_session_of way words buf n
+  unfolding in_session_of
   open-length h = rw (lt-ltb (length buf) n h)
 
   module _ (inside : n ≤ length buf) (policy : Policy) (is_policy : policy ≡ policy_at (word words 0)) (t : ℕ) (is_t : t ≡ tag_length_of (suite_at (word words 0)))
@@ -45,8 +45,8 @@ module _ (way : Way) (words buf : List ℕ) (n : ℕ) where
     judged-so : judged_of way (policy_at (word words 0)) (tag_length_of (suite_at (word words 0))) (take n buf) ≡ j
     judged-so = sym (judged ∙ ap₂ (λ (p : Policy) (k : ℕ). judged_of way p k (take n buf)) is_policy is_t)
 
-    pub open-unread : (r : Refusal) → j ≡ Err r → Err r ≡ open_of way words buf n
-    unfolding open_of
+    pub open-unread : (r : Refusal) → j ≡ Err r → Err r ≡ in_session_of way words buf n
+    unfolding in_session_of
     open-unread r e = rw (le-ltb (length buf) n inside, judged-so, e)
 
     module _ (h : Layout) (read : j ≡ Ok h) (more : ℕ) (is_more : more ≡ added_of way policy t h) where
@@ -56,8 +56,8 @@ module _ (way : Way) (words buf : List ℕ) (n : ℕ) where
       more-so : added_of way (policy_at (word words 0)) (tag_length_of (suite_at (word words 0))) h ≡ more
       more-so = ap₂ (λ (p : Policy) (k : ℕ). added_of way p k h) (sym is_policy) (sym is_t) ∙ sym is_more
 
-      pub open-room : length buf - n < more → Err refusal.Room ≡ open_of way words buf n
-      unfolding open_of
+      pub open-room : length buf - n < more → Err refusal.Room ≡ in_session_of way words buf n
+      unfolding in_session_of
       open-room l =
           let z : length buf < n + more = omega (arith, inside) in
           rw (le-ltb (length buf) n inside, judged-so, read, more-so, lt-ltb (length buf) (n + more) z)
@@ -66,8 +66,8 @@ module _ (way : Way) (words buf : List ℕ) (n : ℕ) where
         room : n + more ≤ length buf
         room = omega (arith, inside, fits)
 
-        pub open-stream : o ≡ open_of way words buf n
-        unfolding open_of
+        pub open-stream : o ≡ in_session_of way words buf n
+        unfolding in_session_of
         open-stream = is_stream ∙ sym (rw (le-ltb (length buf) n inside, judged-so, read, more-so, le-ltb (length buf) (n + more) room))
 
         -- where it is in a stream, it is in that of the layout that was read

@@ -1,6 +1,8 @@
--- The front of every packet call, in the order of its refusals: LENGTH, SHORT to LARGE, ROOM, STREAM, and those of the index rule.
-use Rattle.std.specs.Prelude.{◌≡◌, List, ℕ, ◌+◌, ◌^◌, ◌≤◌, ◌<◌, ltb, length, take, Option, Some, None, Result, Ok, Err}
+-- The front of every packet call, in the order of its refusals: the memory's size, LENGTH, SHORT to LARGE, ROOM, STREAM, and those of the index rule.
+use Rattle.std.specs.Prelude.{◌≡◌, List, ℕ, ◌+◌, ◌^◌, ◌≤◌, ◌<◌, eqb, ltb, length, take, Option, Some, None, Result, Ok, Err}
 use Rattle.bits.specs.Pick.{pick}
+use Rattle.bits.specs.Refusals.{number_of, border_number_of}
+use Rattle.bits.specs.declared.refusal.Border.TheVariants as border
 use Rattle.bits.specs.declared.refusal.Refusal.{Refusal}
 use Rattle.bits.specs.declared.refusal.Refusal.TheVariants as refusal
 use Rattle.memory.specs.Words.{word}
@@ -9,10 +11,12 @@ use Rattle.rtp_header.specs.Header.{seq_of, ssrc_of}
 use Rattle.policies.specs.declared.policy.Way.{Way}
 use Rattle.policies.specs.Judging.{added_of, judged_of}
 use Rattle.suites.specs.Suites.{tag_length_of}
-use Rattle.session.specs.Memory.{suite_at, policy_at, decode}
+use Rattle.session.specs.Memory.{size, suite_at, policy_at, decode}
 use Rattle.session.specs.Places.{place_from}
 use Rattle.records.specs.Tracks.{record_in, judged_by}
 use Rattle.front.specs.declared.open.Opened.{Opened}
+use Rattle.front.specs.declared.open.Shut.{Shut}
+use Rattle.front.specs.declared.open.Shut.TheVariants.{Border, Refused}
 
 -- ---- what the front answers for the packet p, of layout h
 
@@ -38,10 +42,23 @@ module _ (way : Way) (words buf : List ℕ) (n : ℕ) where
       pick (ltb (length buf) (n + added_of way (policy_at (word words 0)) (tag_length_of (suite_at (word words 0))) h)) (Err refusal.Room) (stream_of way words (take n buf) h)
 
   -- LENGTH
-  unfoldable pub open_of : Result Opened Refusal
-  open_of =
+  unfoldable pub in_session_of : Result Opened Refusal
+  in_session_of =
       pick (ltb (length buf) n) (Err refusal.Length)
       (open_read (judged_of way (policy_at (word words 0)) (tag_length_of (suite_at (word words 0))) (take n buf)))
+
+  -- the memory's size, then the rest: the answer in the terms of whoever has both
+  abbrev pub shut_by : Result Opened Refusal → Result Opened Shut
+  shut_by (Ok o) = Ok o
+  shut_by (Err r) = Err (Refused r)
+
+  unfoldable pub open_of : Result Opened Shut
+  open_of = pick (eqb (length words) size) (shut_by in_session_of) (Err (Border border.Memory))
+
+-- the number of what shut
+abbrev pub shut_number : Shut → ℕ
+shut_number (Border b) = border_number_of b
+shut_number (Refused r) = number_of r
 
 -- ---- what holds where nothing was refused, for the calls' cores
 
@@ -69,3 +86,7 @@ pub record Ready (way : Way) (words buf : List ℕ) (n i k : ℕ) (h : Layout) :
 abbrev pub OpensAs : Way → List ℕ → List ℕ → ℕ → Result Opened Refusal → Type 0
 OpensAs way words buf n (Ok o) = Ready way words buf n o.place o.index o.layout
 OpensAs way words buf n (Err r) = Unit {0}
+
+abbrev pub Opens : Way → List ℕ → List ℕ → ℕ → Result Opened Shut → Type 0
+Opens way words buf n (Ok o) = (length words ≡ size) × Ready way words buf n o.place o.index o.layout
+Opens way words buf n (Err s) = Unit {0}

@@ -1,9 +1,9 @@
 // What every packet call asks before it uses a key, with the way as an argument.
 ghost use Rattle.std.specs.Prelude.{◌≡◌, ◌≤◌, length};
-ghost use Rattle.front.specs.Opening.{stream_of, open_of, InStream, OpensAs};
+ghost use Rattle.front.specs.Opening.{stream_of, in_session_of, open_of, shut_number, InStream, OpensAs, Opens};
 
 use crate::fields::{sequence_number, ssrc};
-use bits::refusal::Refusal;
+use bits::refusal::{Border, Refusal};
 use policies::judge::{added, judge};
 use policies::policy::Way;
 use records::places::place_of;
@@ -18,6 +18,24 @@ pub struct Opened {
     pub layout: Layout,
     pub place: usize,
     pub index: u64,
+}
+
+// Why a packet call ends at its front: the border's own, or a refusal of document 01.
+#[derive(Clone, Copy, Debug, PartialEq, Eq)]
+pub enum Shut {
+    Border(Border),
+    Refused(Refusal),
+}
+
+impl From<Shut> for u32 {
+    ghost from_gives = { λ shut n. n ≡ shut_number shut };
+
+    fn from(shut: Shut) -> u32 {
+        match shut {
+            Shut::Border(border) => u32::from(border),
+            Shut::Refused(refusal) => u32::from(refusal),
+        }
+    }
 }
 
 // STREAM, and then the refusals of the index rule, 10 to 13.
@@ -42,9 +60,14 @@ fn in_stream(
     })
 }
 
-// The second `ensures` follows from the first; callers have it ready.
-pub fn open(session: &[u64; SIZE], buf: &[u8], n: usize, way: Way) -> Result<Opened, Refusal>
-    ensures value { result ≡ open_of way session.now buf.now n }
+// LENGTH, SHORT to LARGE, ROOM, and then the rest. The second `ensures` follows from the first; callers have it ready.
+fn in_session(
+    session: &[u64; SIZE],
+    buf: &[u8],
+    n: usize,
+    way: Way,
+) -> Result<Opened, Refusal>
+    ensures value { result ≡ in_session_of way session.now buf.now n }
     ensures opens_as { OpensAs way session.now buf.now n result }
 {
     if buf.len() < n {
@@ -58,4 +81,15 @@ pub fn open(session: &[u64; SIZE], buf: &[u8], n: usize, way: Way) -> Result<Ope
         return Err(Refusal::Room);
     }
     in_stream(session, packet, way, layout)
+}
+
+// The same on any memory, whose size is asked first. The second `ensures` follows from the first; callers have it ready.
+pub fn open(session: &[u64], buf: &[u8], n: usize, way: Way) -> Result<Opened, Shut>
+    ensures value { result ≡ open_of way session.now buf.now n }
+    ensures opens { Opens way session.now buf.now n result }
+{
+    let Some(session) = session.as_array::<SIZE>() else {
+        return Err(Shut::Border(Border::Memory));
+    };
+    in_session(session, buf, n, way).map_err(Shut::Refused)
 }

@@ -34,7 +34,7 @@ use Rattle.session.proofs.Places.{first-here, nowhere, stored_there}
 use Rattle.session.proofs.Ways.{in_by, read_by, call_by, effect_is, call-is, outcome-is}
 use Rattle.front.specs.declared.open.Opened.{Opened}
 use Rattle.records.specs.Tracks.{record_in, judged_by}
-use Rattle.front.specs.Opening.{open_index, open_at, open_read, open_of}
+use Rattle.front.specs.Opening.{open_index, open_at, open_read, in_session_of}
 use Rattle.streams.specs.Steps.{effect_at, left_by}
 use Rattle.streams.proofs.Effects.{wire-length, not_taken}
 
@@ -136,9 +136,9 @@ module _ (words buf : List ℕ) (n : ℕ) where
     pub memory-gives : (length words ≡ size → ⊥) → Gives (call_by way words buf n) (record { number = wrong_memory; length = 0 }) buf words
     memory-gives h = rw (sized-call way, ne_eqb (length words) size h) (record { answer = refl; buffer = refl; words = refl })
 
-    module _ (sized : length words ≡ size) (o : Result Opened Refusal) (opens : o ≡ open_of way words buf n) where
+    module _ (sized : length words ≡ size) (o : Result Opened Refusal) (opens : o ≡ in_session_of way words buf n) where
       ended_so : call_by way words buf n ≡ ended_by way o
-      unfolding open_of
+      unfolding in_session_of
       ended_so = rw (sized-call way, eq-eqb (length words) size sized) (length-left way ∙ ap (ended_by way) (sym opens))
 
       pub refused-gives : (r : Refusal) → o ≡ Err r → Gives (call_by way words buf n) (record { number = number_of r; length = 0 }) buf words

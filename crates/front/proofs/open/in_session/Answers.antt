@@ -1,9 +1,9 @@
--- `front::open::open` meets its contract.
+-- `front::open::in_session` meets its contract.
 use mathlib.Core.Path.{ap, ◌∙◌}
 use borrow.Author.Rules.{rules}
 use Rattle.suites.specs.Suites.{tag_length_of}
 use Rattle.front.proofs.Opens.{judged-long, open-length, open-unread, open-judged, open-room, open-stream, open-ready}
-use Rattle.front.proofs.open.open.Goals as goal
+use Rattle.front.proofs.open.in_session.Goals as goal
 
 pub returns-then-buf-n-clause-value : goal.returns-then-buf-n-clause-value
 returns-then-buf-n-clause-value c = let a = c.args in open-length a.way a.session.now a.buf.now a.n c.if-buf-n.true
