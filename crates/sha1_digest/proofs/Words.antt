@@ -1,5 +1,5 @@
 -- The bytes of a hash value, word by word.
-use Rattle.std.proofs.Common.{◌≡◌, ℕ, zero, suc, ◌+◌, ◌-◌, ◌*◌, ◌<◌, ◌≤◌, List, [], ◌++◌, length, get_or, replicate, sym, refl, ap, ◌∙◌, add-one, arith, length-append}
+use Rattle.std.proofs.Common.{◌≡◌, ℕ, zero, suc, ◌+◌, ◌-◌, ◌*◌, ◌<◌, List, [], ◌++◌, length, get_or, replicate, sym, refl, ap, ◌∙◌, add-one, arith, length-append}
 use lib.Seq.{paste}
 use Rattle.bits.specs.BigEndian.{to_bytes}
 use Rattle.sha1_compress.specs.Hash.{digest_of}

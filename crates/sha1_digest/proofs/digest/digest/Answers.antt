@@ -1,5 +1,5 @@
 -- `sha1_digest::digest::digest` meets its contract, a word at a time.
-use Rattle.std.proofs.Common.{◌≡◌, ◌+◌, ◌*◌, get_or, arith, refl, ◌∙◌}
+use Rattle.std.proofs.Common.{◌≡◌, ◌*◌, get_or, arith, refl, ◌∙◌}
 use native.Mathlib.Nat.{div-one}
 use Rattle.std.proofs.lemmas.Slice.{put_mid-paste}
 use Rattle.bits.specs.BigEndian.{to_bytes}

@@ -1,5 +1,5 @@
 -- `sha1_message::message::block` meets its contract.
-use Rattle.std.proofs.Common.{◌≡◌, arith}
+use Rattle.std.proofs.Common.{arith}
 use Rattle.sha1_compress.proofs.Blocks.{words-none, word_more, words-all}
 use Rattle.sha1_message.proofs.message.block.Goals as goal
 

@@ -1,5 +1,5 @@
 -- `sha1_message::message::put` meets its contract: a copy onto a part of a slice is a paste.
-use Rattle.std.proofs.Common.{◌≡◌, length, arith, refl}
+use Rattle.std.proofs.Common.{length, arith, refl}
 use Rattle.std.proofs.lemmas.Slice.{put_mid-paste}
 use Rattle.sha1_message.proofs.message.put.Goals as goal
 

@@ -1,5 +1,5 @@
 -- `tags::tag::same` meets its contract: the differences, summed byte by byte. A sum is 0 just where no bit is set on either side.
-use Rattle.std.proofs.Common.{◌≡◌, ℕ, ◌+◌, ◌*◌, ◌≤◌, ◌<◌, length, take, get_or, List, [], ◌∷◌, ◌++◌, length-append, sym, refl, ap, ap₂, ◌∙◌, arith, rules, min}
+use Rattle.std.proofs.Common.{◌≡◌, ℕ, ◌+◌, ◌<◌, length, take, get_or, [], ◌∷◌, ◌++◌, length-append, sym, refl, ap, ap₂, ◌∙◌, arith, rules}
 use Rattle.std.proofs.lemmas.Nat.{xor_of_8}
 use Rattle.std.proofs.lemmas.Slice.Zip.{zip_turn, zip_end}
 use borrow.Author.Tests.{eq-eqb, ne_eqb, eqb-true, eqb-false}
@@ -33,8 +33,7 @@ loop-x-preserved c =
     let t = zip_turn g.a.now g.b.now l.yielded c.into_iter-x-iterator.result l.x-iterator c.next.new.self c.next.result (search rules) (search rules) l.yielded_by (c.in-Some.x, c.in-Some.y) c.in-Some.is c.next.ensures.steps in
     let d : c.from-sum.result ≡ get_or g.a.now i 0 ⊕ get_or g.b.now i 0 = c.from-sum.ensures ∙ ap₂ bit_xor (t.2 0) (t.3 0) in
     let more : length (l.yielded ++ ((c.in-Some.x, c.in-Some.y) ∷ [])) ≡ i + 1 = simp length-append in
-    let byte : c.from-sum.result < 256 = rw d (xor_of_8 _ _ (c.type_inv.a i).fits (c.type_inv.b i).fits) in
-    (
+    let byte : c.from-sum.result < 256 = rw d (xor_of_8 _ _ (c.type_inv.a i).fits (c.type_inv.b i).fits) in (
       omega (arith, more, byte),
       ap (λ (k : ℕ). eqb (l.sum + k) 0) d
           ∙ sum-test l.sum (get_or g.a.now i 0 ⊕ get_or g.b.now i 0)
