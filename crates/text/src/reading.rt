@@ -50,13 +50,8 @@ pub fn bytes<const N: usize>(word: &[u8]) -> Option<ArrayVec<u8, N>>
 }
 
 // Exactly N bytes in hex.
-pub fn array<const N: usize>(word: &[u8]) -> Option<[u8; N]> {
-    if word.len() / 2 != N || word.len() % 2 == 1 {
-        return None;
-    }
-    let mut array = [0u8; N];
-    for (b, pair) in array.iter_mut().zip(word.chunks_exact(2)) {
-        *b = byte(pair[0], pair[1])?;
-    }
-    Some(array)
+pub fn array<const N: usize>(word: &[u8]) -> Option<[u8; N]>
+    requires { N ≤ 65536 }
+{
+    bytes(word)?.into_inner().ok()
 }
