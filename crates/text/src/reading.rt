@@ -28,10 +28,6 @@ fn digit(b: u8) -> Option<u8>
     }
 }
 
-fn byte(high: u8, low: u8) -> Option<u8> {
-    Some(digit(high)? * 16 + digit(low)?)
-}
-
 // At most N bytes in hex, or `-` for none.
 pub fn bytes<const N: usize>(word: &[u8]) -> Option<ArrayVec<u8, N>>
     ensures { IfSome result (λ b. 2 * array_vec_len b ≤ length word.now) }
@@ -40,11 +36,12 @@ pub fn bytes<const N: usize>(word: &[u8]) -> Option<ArrayVec<u8, N>>
     if word == b"-".as_slice() {
         return Some(bytes);
     }
-    if word.is_empty() || word.len() % 2 == 1 {
+    let (pairs, odd) = word.as_chunks::<2>();
+    if pairs.is_empty() || !odd.is_empty() {
         return None;
     }
-    for pair in word.chunks_exact(2) {
-        bytes.try_push(byte(pair[0], pair[1])?).ok()?;
+    for [high, low] in pairs {
+        bytes.try_push(digit(*high)? * 16 + digit(*low)?).ok()?;
     }
     Some(bytes)
 }
