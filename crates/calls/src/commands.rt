@@ -1,70 +1,85 @@
-// A line of the script, answered by its first word. Each call puts its answer together and gives back how long it is: 0 for a line that cannot be read,
-// which changes nothing.
-ghost use Rattle.std.specs.Prelude.{◌≡◌, length};
-
-use crate::sessions::on_session;
+// A line of the script, answered by its first word.
+use crate::packets::packet_call;
 use element_lines::find::find_element;
 use index_lines::guess::guess_index;
 use mask_lines::mask::mask_block;
-use memory::copying::clear;
+use session::layout::SIZE;
+use setup_lines::add::add_stream;
+use setup_lines::make::make_session;
+use srtp::protect::protect;
+use srtp::unprotect::unprotect;
+use state_lines::state::show_state;
+use std::fmt::Display;
 use std::io;
 use stretch_lines::stretch::stretch_data;
-use text::words::{count, first_among, well_spaced};
-use text_output::output::{put_text, write_line};
+use text::reading::number;
+use text::words::well_spaced;
 
-// A new list of calls begins: the line is written back, and all sessions are forgotten.
-fn new_case(desk: &mut [u64], line: &[u8], out: &mut [u8]) -> usize {
-    if count(line) < 2 {
-        return 0;
-    }
-    clear(desk);
-    put_text(out, 0, line)
-}
+// A line that is longer than this cannot be read.
+pub const LONGEST: usize = 20000;
 
-// The lines without a session.
-fn other(call: usize, line: &[u8], out: &mut [u8]) -> usize {
-    match call {
-        6 => find_element(line, out),
-        7 => guess_index(line, out),
-        8 => mask_block(line, out),
-        9 => stretch_data(line, out),
-        _ => 0,
+// The memory of the eight sessions.
+pub type Desk = [[u64; SIZE]; 8];
+
+// Sessions of zeros are not made.
+pub const EMPTY: Desk = [[0; SIZE]; 8];
+
+// The answer to a line; `?` for one that cannot be read, which changes nothing.
+fn reply<D: Display + Drop>(rt: &impl Print, answer: Option<D>) -> io::Result<()> {
+    match answer {
+        Some(answer) => rt.println(answer),
+        None => rt.println("?"),
     }
 }
 
-fn command(desk: &mut [u64], line: &[u8], out: &mut [u8]) -> usize {
-    if (20000 < line.len()) | !well_spaced(line) {
-        return 0;
-    }
-    let call = first_among(
-        line,
-        b"make add protect unprotect state case find guess mask stretch",
-    );
-    if call < 5 {
-        return on_session(desk, call, line, out);
-    }
-    if call == 5 {
-        return new_case(desk, line, out);
-    }
-    other(call, line, out)
+// The second word is the session.
+fn named<'a>(desk: &'a mut Desk, name: &[u8]) -> Option<&'a mut [u64; SIZE]> {
+    desk.get_mut(number::<usize>(name)?)
 }
 
-// Nothing is written for an empty line and for a comment, but for a longer one than is read.
-fn is_silent(line: &[u8]) -> bool {
-    if line.len() == 0 {
-        return true;
+fn command(rt: &impl Print, desk: &mut Desk, line: &[u8], words: &[&[u8]]) -> io::Result<()> {
+    match words {
+        [b"make", name, rest @ ..] => {
+            reply(rt, named(desk, name).and_then(|session| make_session(session, rest)))
+        }
+        [b"add", name, rest @ ..] => {
+            reply(rt, named(desk, name).and_then(|session| add_stream(session, rest)))
+        }
+        [b"protect", name, rest @ ..] => reply(
+            rt,
+            named(desk, name).and_then(|session| packet_call(protect, session, rest)),
+        ),
+        [b"unprotect", name, rest @ ..] => reply(
+            rt,
+            named(desk, name).and_then(|session| packet_call(unprotect, session, rest)),
+        ),
+        [b"state", name] => reply(rt, named(desk, name).map(|session| show_state(session))),
+        [b"find", rest @ ..] => reply(rt, find_element(rest)),
+        [b"guess", rest @ ..] => reply(rt, guess_index(rest)),
+        [b"mask", rest @ ..] => reply(rt, mask_block(rest)),
+        [b"stretch", rest @ ..] => reply(rt, stretch_data(rest)),
+        // A new list of calls begins: all sessions are forgotten.
+        [b"case", _, ..] => {
+            *desk = EMPTY;
+            rt.write_all(line)?;
+            rt.write_all(b"\n")
+        }
+        _ => rt.println("?"),
     }
-    (line[0] == 35) & (line.len() <= 20000)
 }
 
-// After an error of writing, the call was made: the sessions are as after an answer that was written.
-pub fn answer(rt: &impl Print, desk: &mut [u64], line: &[u8]) -> io::Result<()>
-    ensures { length desk.new ≡ length desk.old }
-{
-    if is_silent(line) {
+// Nothing is written for an empty line and for a comment, but for a longer one than is read. After an error of writing, the call was made: the sessions
+// are as after an answer that was written.
+pub fn answer(rt: &(impl Print + AllocGlobal), desk: &mut Desk, line: &[u8]) -> io::Result<()> {
+    if line.len() > LONGEST {
+        return rt.println("?");
+    }
+    if line.is_empty() || line.starts_with(b"#") {
         return Ok(());
     }
-    let mut out = [0u8; 20001];
-    let length = command(desk, line, &mut out);
-    write_line(rt, &mut out, length)
+    if !well_spaced(line) {
+        return rt.println("?");
+    }
+    let words: Vec<&[u8]> = line.split(|b| *b == b' ').collect(rt.alloc())?;
+    command(rt, desk, line, words.as_slice())
 }

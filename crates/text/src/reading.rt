@@ -1,5 +1,5 @@
 // Words of a line read as numbers and bytes; `None` for a word that is none.
-ghost use Rattle.std.specs.Prelude.{◌*◌, ◌≤◌, length, IfSome};
+ghost use Rattle.std.specs.Prelude.{◌*◌, ◌^◌, ◌<◌, ◌≤◌, length, IfSome};
 ghost use Rattle.arrayvec.specs.ArrayVec.{array_vec_len};
 
 use arrayvec::ArrayVec;
@@ -15,6 +15,14 @@ where
         return None;
     }
     str::from_utf8(word).ok()?.parse().ok()
+}
+
+// The index of a packet: at most 281474976710655.
+pub fn index(word: &[u8]) -> Option<u64>
+    ensures { IfSome result (λ n. n < 2 ^ 48) }
+{
+    let n = number(word)?;
+    if n < 1 << 48 { Some(n) } else { None }
 }
 
 // The value of a hex digit in lower case.

@@ -6,8 +6,8 @@ use Rattle.mask_lines.proofs.mask.cover_listed.Goals as goal
 pub overflow_add-end : goal.overflow_add-end
 overflow_add-end c = let s = next-at _ _ _ _ (sym c.in-At.ensures) in omega (arith, s.inside)
 
-pub slice_bounds-cover-end : goal.slice_bounds-cover-end
-slice_bounds-cover-end c = let s = next-at _ _ _ _ (sym c.in-At.ensures) in omega (arith, s.inside)
+pub slice_bounds-fill-end : goal.slice_bounds-fill-end
+slice_bounds-fill-end c = let s = next-at _ _ _ _ (sym c.in-At.ensures) in omega (arith, s.inside)
 
 pub loop-i-smaller-then-is_listed : goal.loop-i-smaller-then-is_listed
 loop-i-smaller-then-is_listed c = let s = next-at _ _ _ _ (sym c.in-At.ensures) in omega (arith, s.inside, s.after)
