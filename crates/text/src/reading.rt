@@ -1,8 +1,9 @@
 // Words of a line read as numbers and bytes; `None` for a word that is none.
-ghost use Rattle.std.specs.Prelude.{◌*◌, ◌^◌, ◌<◌, ◌≤◌, length, IfSome};
-ghost use Rattle.arrayvec.specs.ArrayVec.{array_vec_len};
+ghost use Rattle.std.specs.Prelude.{◌≡◌, ◌^◌, ◌<◌, ◌⊎◌, [], Ok, IfSome};
+ghost use Rattle.hex.specs.Hex.{decode_of, decode_sized};
 
 use arrayvec::ArrayVec;
+use hex::FromHex;
 use std::str;
 use std::str::FromStr;
 
@@ -10,6 +11,7 @@ use std::str::FromStr;
 pub fn number<T: FromStr>(word: &[u8]) -> Option<T>
 where
     T::Err: Drop,
+    ensures { IfSome result (λ n. T.from_str_gives word.now (Ok n)) }
 {
     if !word.iter().all(|b| b.is_ascii_digit()) {
         return None;
@@ -25,38 +27,36 @@ pub fn index(word: &[u8]) -> Option<u64>
     if n < 1 << 48 { Some(n) } else { None }
 }
 
-// The value of a hex digit in lower case.
-fn digit(b: u8) -> Option<u8>
-    ensures { IfSome result (λ d. d ≤ 15) }
+// Hex has its letters in lower case.
+fn lower_case<'a>(word: &'a [u8]) -> Option<&'a [u8]>
+    ensures { IfSome result (λ w. w.now ≡ word.entry.now) }
 {
-    match b {
-        b'0'..=b'9' => Some(b - b'0'),
-        b'a'..=b'f' => Some(b - b'a' + 10),
-        _ => None,
+    if word.iter().any(|b| b.is_ascii_uppercase()) {
+        None
+    } else {
+        Some(word)
     }
 }
 
 // At most N bytes in hex, or `-` for none.
 pub fn bytes<const N: usize>(word: &[u8]) -> Option<ArrayVec<u8, N>>
-    ensures { IfSome result (λ b. 2 * array_vec_len b ≤ length word.now) }
+    ensures { IfSome result (λ b. (b.items ≡ []) ⊎ (decode_of word.now ≡ Ok b.items)) }
 {
-    let mut bytes = ArrayVec::new();
     if word == b"-".as_slice() {
-        return Some(bytes);
+        return Some(ArrayVec::new());
     }
-    let (pairs, odd) = word.as_chunks::<2>();
-    if pairs.is_empty() || !odd.is_empty() {
+    if word.is_empty() {
         return None;
     }
-    for [high, low] in pairs {
-        bytes.try_push(digit(*high)? * 16 + digit(*low)?).ok()?;
-    }
+    let mut bytes = ArrayVec::from([0; N]);
+    bytes.truncate(word.len() / 2);
+    hex::decode_to_slice(lower_case(word)?, &mut bytes).ok()?;
     Some(bytes)
 }
 
 // Exactly N bytes in hex.
 pub fn array<const N: usize>(word: &[u8]) -> Option<[u8; N]>
-    requires { N ≤ 65536 }
+    ensures { IfSome result (λ a. decode_sized word.now N ≡ Ok a) }
 {
-    bytes(word)?.into_inner().ok()
+    <[u8; N]>::from_hex(lower_case(word)?).ok()
 }
