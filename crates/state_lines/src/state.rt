@@ -44,7 +44,11 @@ fn write_seen<W: Write>(f: &mut Formatter<W>, ring: &[u64], highest: u64) -> fmt
     requires { 2 ≤ length ring.now }
 {
     let distances = 0..=highest.min(63);
-    write_list(f, distances.filter(|distance| seen(ring, highest - *distance)), ",")
+    write_list(
+        f,
+        distances.filter(|distance| seen(ring, highest - *distance)),
+        ",",
+    )
 }
 
 impl Display for Record<'_> {

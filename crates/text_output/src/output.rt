@@ -27,7 +27,11 @@ impl Display for Hex<'_> {
 }
 
 // The items of a list with this between them; `-` where there are none.
-pub fn write_list<W: Write, I: Iterator>(f: &mut Formatter<W>, items: I, between: &str) -> fmt::Result
+pub fn write_list<W: Write, I: Iterator>(
+    f: &mut Formatter<W>,
+    items: I,
+    between: &str,
+) -> fmt::Result
 where
     I: Drop,
     I::Item: Display + Drop,
