@@ -15,7 +15,7 @@ use session::load::low;
 const WIDTH: u64 = 64;
 
 // Where record i begins.
-fn record_place(i: usize) -> usize
+pub fn record_place(i: usize) -> usize
     requires { i < 32 }
     ensures { result ≡ record_place i }
 {
