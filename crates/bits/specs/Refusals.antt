@@ -1,7 +1,9 @@
 -- The refusals and their numbers: document 01, "Numbers given back", to which document 02 adds conditions, and the border's own.
-use Rattle.std.specs.Prelude.{◌≡◌, List, [], ◌∷◌, map, ℕ, ◌-◌, get_or}
+use Rattle.std.specs.Prelude.{◌≡◌, List, [], ◌∷◌, map, ℕ, ◌-◌, get_or, Result, Ok, Err}
 use Rattle.bits.specs.declared.refusal.Refusal.{Refusal}
 use Rattle.bits.specs.declared.refusal.Refusal.TheVariants.{Length, Short, Version, Header, Profile, Element, Large, Room, Stream, Order, Worn, Old, Repeat, Tag, Keys, Policy, Twice, Full, Absent}
+use Rattle.bits.specs.declared.refusal.Border.{Border}
+use Rattle.bits.specs.declared.refusal.Border.TheVariants.{Memory, Way, Sizes, Suite}
 
 -- the number that a call gives back for a refusal
 abbrev pub number_of : Refusal → ℕ
@@ -25,6 +27,11 @@ number_of Policy = 16
 number_of Twice = 17
 number_of Full = 18
 number_of Absent = 19
+
+-- the number that a call gives back: 0 where nothing is refused
+abbrev pub outcome_of : {A : Type 0} → Result A Refusal → ℕ
+outcome_of (Ok a) = 0
+outcome_of (Err r) = number_of r
 
 -- the table of document 01, row by row
 abbrev pub refusals : List Refusal
@@ -55,3 +62,9 @@ wrong_sizes = 102
 -- a suite that is neither 0, AES_CM_128_HMAC_SHA1_80, nor 1, AEAD_AES_128_GCM (document 02, CR 3)
 abbrev pub wrong_suite : ℕ
 wrong_suite = 103
+
+abbrev pub border_number_of : Border → ℕ
+border_number_of Memory = wrong_memory
+border_number_of Way = wrong_way
+border_number_of Sizes = wrong_sizes
+border_number_of Suite = wrong_suite

@@ -2,10 +2,10 @@
 ghost use Rattle.std.specs.Prelude.{◌≡◌, ◌≤◌, length};
 
 use arrayvec::ArrayVec;
-use bits::refusal::{Refusal, number};
+use bits::refusal::Refusal;
 use element_cipher::listed::is_listed;
 use making::ids::flags;
-use rtp_elements::element::{Found, next, whole};
+use rtp_elements::element::next;
 use std::fmt;
 use std::fmt::{Display, Formatter, Write};
 use text::reading::{array, bytes};
@@ -25,41 +25,36 @@ impl Display for Mask {
                 write!(f, "0 {mask}")
             }
             Err(refusal) => {
-                let number = number(*refusal);
+                let number = u8::from(*refusal);
                 write!(f, "{number} -")
             }
         }
     }
 }
 
-// The mask of a whole extension block, onto zeros: FF on the data of listed elements.
-fn cover_listed(block: &[u8], tag: u16, set: &[u64; 4], mask: &mut [u8])
+// The mask of an extension block, onto zeros: FF on the data of listed elements. A refusal's mask is not shown.
+fn cover_listed(block: &[u8], tag: u16, set: [u64; 4], mask: &mut [u8]) -> Result<(), Refusal>
     requires { length mask.old ≡ length block.now }
+    ensures { length mask.new ≡ length mask.old }
 {
     let mut i: usize = 0;
-    while i < block.len() {
-        let Found::At(element) = next(block, tag, i) else {
-            return;
-        };
+    while let Some(element) = next(block, tag, i)? {
         let begin = element.begin;
         let end = begin + element.length;
-        if is_listed(set, element.id) {
+        if is_listed(&set, element.id) {
             mask[begin..end].fill(0xFF);
         }
         i = end;
     }
+    Ok(())
 }
 
-// The mask of a block, or the refusal.
 fn mask_of(block: &[u8], tag: u16, set: [u64; 4]) -> Result<ArrayVec<u8, 4096>, Refusal>
     requires { length block.now ≤ 4096 }
 {
-    if !whole(block, tag) {
-        return Err(Refusal::Element);
-    }
     let mut mask = ArrayVec::from([0; 4096]);
     mask.truncate(block.len());
-    cover_listed(block, tag, &set, &mut mask);
+    cover_listed(block, tag, set, &mut mask)?;
     Ok(mask)
 }
 

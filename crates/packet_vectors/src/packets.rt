@@ -8,7 +8,7 @@ use session::layout::SIZE;
 use srtp::protect::protect;
 use srtp::unprotect::unprotect;
 use std::io;
-use suites::suite::{Suite, suite_number, tag_length};
+use suites::suite::Suite;
 
 // A session with the ids 1, 3 and 4 and the stream cafebabe.
 fn begin(session: &mut [u64], key: &[u8], salt: &[u8], policy: u64, suite: u32, way: u32) {
@@ -39,8 +39,8 @@ pub fn both_ways(
 ) -> io::Result<()>
     ensures { length buf.new ≡ length buf.old }
 {
-    let t = tag_length(suite);
-    let number = suite_number(suite) as u32;
+    let t = suite.tag_length();
+    let number = u64::from(suite) as u32;
     if buf.len() < t {
         return Ok(());
     }

@@ -1,6 +1,6 @@
 // What the calls give back.
 ghost use Rattle.std.specs.Prelude.{◌≡◌};
-ghost use Rattle.bits.specs.Refusals.{number_of};
+ghost use Rattle.session.specs.Answers.{answer_of};
 
 use bits::refusal::{Refusal, number};
 
@@ -12,12 +12,8 @@ pub struct Answer {
     pub length: usize,
 }
 
-// The number of a refusal of document 01.
-pub fn code(refusal: Refusal) -> u32
-    ensures { result ≡ number_of refusal }
-{
-    number(refusal) as u32
-}
+impl From<Result<usize, Refusal>> for Answer {
+    ghost from_gives = { λ answer given. given ≡ answer_of answer };
 
 pub fn refused(refusal: Refusal) -> Answer
     ensures { result ≡ record { number = number_of refusal; length = 0 } }

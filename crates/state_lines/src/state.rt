@@ -3,7 +3,6 @@ ghost use Rattle.std.specs.Prelude.{◌≡◌, ◌≤◌, length};
 ghost use Rattle.session.specs.Memory.{each};
 
 use policies::policy::Way;
-use policies::uses::policy_number;
 use replay::ring::seen;
 use session::layout::{EACH, FRONT, REPLAY, REPLAY_END, SIZE};
 use session::load::{is_made, load_policy, low};
@@ -79,7 +78,7 @@ impl Display for State<'_> {
         let session = self.0;
         let first = session[0];
         let made = u8::from(is_made(first));
-        let policy = policy_number(load_policy(first));
+        let policy = u64::from(load_policy(first));
         write!(f, "{made} {policy} ")?;
         let records = session[FRONT..].chunks_exact(EACH);
         write_list(f, records.filter_map(|words| Record::in_words(words)), ";")

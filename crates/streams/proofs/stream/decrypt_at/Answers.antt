@@ -1,6 +1,5 @@
 -- `streams::stream::decrypt_at` meets its contract.
 use Rattle.front.proofs.Opens.{judged-long}
-use Rattle.streams.proofs.Effects.{own-ssrc}
 use Rattle.streams.proofs.stream.decrypt_at.Goals as goal
 
 pub ssrc-own-requires : goal.ssrc-own-requires
@@ -13,4 +12,7 @@ unprotect_packet-requires c =
 
 pub returns : goal.returns
 returns c =
-    record { value = rw (c.keys_of-keys.ensures, c.load_policy-policy.ensures, c.load_suite-suite.ensures, own-ssrc c.args.buf.now c.args.n _ c.ssrc-own.ensures) at c.unprotect_packet.ensures.value; buf_after = rw (c.keys_of-keys.ensures, c.load_policy-policy.ensures, c.load_suite-suite.ensures, c.ids_of-ids.ensures, own-ssrc c.args.buf.now c.args.n _ c.ssrc-own.ensures) at c.unprotect_packet.ensures.buf_after }
+    record {
+      value = rw (c.keys_of-keys.ensures, c.load_policy-policy.ensures, c.load_suite-suite.ensures, c.ssrc-own.ensures) at c.unprotect_packet.ensures.value;
+      buf_after = rw (c.keys_of-keys.ensures, c.load_policy-policy.ensures, c.load_suite-suite.ensures, c.ids_of-ids.ensures, c.ssrc-own.ensures) at c.unprotect_packet.ensures.buf_after;
+    }

@@ -8,7 +8,7 @@ use Rattle.streams.proofs.stream.unprotect_stream.Goals as goal
 
 pub returns-then-not-decrypt_at : goal.returns-then-not-decrypt_at
 returns-then-not-decrypt_at c =
-    rw c.refused.ensures (wrong-tag c.args.session.now c.args.i c.args.buf.now c.args.n _ _ c.requires.placed.index _ c.decrypt_at.ensures.value c.decrypt_at.ensures.buf_after (c.if-not-decrypt_at.true))
+    wrong-tag c.args.session.now c.args.opened.place c.args.buf.now c.args.n _ _ c.requires.placed.index _ c.decrypt_at.ensures.value c.decrypt_at.ensures.buf_after c.if-not-decrypt_at.true
 
 pub overflow_sub-result : goal.overflow_sub-result
 overflow_sub-result c =
@@ -16,4 +16,4 @@ overflow_sub-result c =
 
 pub returns : goal.returns
 returns c =
-    is-received c.args.session.now c.args.i c.args.buf.now c.args.n _ _ c.requires.placed.index _ c.decrypt_at.ensures.value c.decrypt_at.ensures.buf_after (c.if-not-decrypt_at.false) _ (c.tag_length-t.ensures.0 ∙ ap tag_length_of c.load_suite.ensures) _ c.commit.ensures
+    is-received c.args.session.now c.args.opened.place c.args.buf.now c.args.n _ _ c.requires.placed.index _ c.decrypt_at.ensures.value c.decrypt_at.ensures.buf_after c.if-not-decrypt_at.false _ (c.tag_length-t.ensures.0 ∙ ap tag_length_of c.load_suite.ensures) _ c.commit.ensures
