@@ -1,8 +1,11 @@
 // The line `add`.
+ghost use Rattle.std.specs.Option.{IfNone};
+ghost use Rattle.std.specs.Prelude.{◌≡◌};
+
 use adding::add::add;
 use text::reading::{array, number};
 
-// s and r, as the call numbers them.
+// s and r, as the call numbers them: it takes a number, into which an enum would only be turned again.
 fn way(word: &[u8]) -> Option<u32> {
     match word {
         b"s" => Some(0),
@@ -11,8 +14,10 @@ fn way(word: &[u8]) -> Option<u32> {
     }
 }
 
-// SSRC WAY ROLLOVER: NO, or `None` where the words cannot be read.
-pub fn add_stream(session: &mut [u64], words: &[&[u8]]) -> Option<u32> {
+// SSRC WAY ROLLOVER: NO, or `None` where the words cannot be read, which changes nothing.
+pub fn add_stream(session: &mut [u64], words: &[&[u8]]) -> Option<u32>
+    ensures { IfNone result (session.new ≡ session.old) }
+{
     let [ssrc, way_word, rollover] = words else {
         return None;
     };

@@ -1,8 +1,11 @@
 // The line `make`.
+ghost use Rattle.std.specs.Option.{IfNone};
+ghost use Rattle.std.specs.Prelude.{◌≡◌};
+
 use making::make::make;
 use text::reading::{bytes, number};
 
-// No last word, or `gcm`, as the call numbers the suites.
+// No last word, or `gcm`, as the call numbers the suites: it takes a number, into which an enum would only be turned again.
 fn suite(words: &[&[u8]]) -> Option<u32> {
     match words {
         [] => Some(0),
@@ -11,8 +14,10 @@ fn suite(words: &[&[u8]]) -> Option<u32> {
     }
 }
 
-// KEY SALT POLICY IDS, and gcm for the second suite: NO, or `None` where the words cannot be read.
-pub fn make_session(session: &mut [u64], words: &[&[u8]]) -> Option<u32> {
+// KEY SALT POLICY IDS, and gcm for the second suite: NO, or `None` where the words cannot be read, which changes nothing.
+pub fn make_session(session: &mut [u64], words: &[&[u8]]) -> Option<u32>
+    ensures { IfNone result (session.new ≡ session.old) }
+{
     let [key, salt, policy, ids, last @ ..] = words else {
         return None;
     };
