@@ -7,7 +7,7 @@ ghost use Rattle.session.specs.Memory.{record_words, is_mark, decode};
 ghost use Rattle.session.specs.Places.{free_from};
 ghost use Rattle.session.specs.Records.{fresh_record, has_ssrc};
 
-use bits::refusal::{MEMORY, Refusal, WAY, number};
+use bits::refusal::{Border, Refusal};
 use policies::policy::Way;
 use records::places::{free_place, has_ssrc, head_word};
 use records::tracks::record_place;
@@ -53,10 +53,10 @@ pub fn add(session: &mut [u64], ssrc: u32, way: u32, rollover: u32) -> u32
     ensures { Leaves (add_call session.old ssrc way rollover) result session.new }
 {
     let Some(session) = session.as_mut_array::<SIZE>() else {
-        return MEMORY;
+        return u32::from(Border::Memory);
     };
     let Some(way) = way_of(way) else {
-        return WAY;
+        return u32::from(Border::Way);
     };
     match place_for(session, ssrc) {
         Ok(i) => {
@@ -64,6 +64,6 @@ pub fn add(session: &mut [u64], ssrc: u32, way: u32, rollover: u32) -> u32
             session[at..at + EACH].copy_from_slice(&fresh_record(ssrc, way, rollover));
             0
         }
-        Err(refusal) => u32::from(number(refusal)),
+        Err(refusal) => u32::from(refusal),
     }
 }

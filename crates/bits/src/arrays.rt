@@ -20,24 +20,3 @@ pub fn filled<const N: usize>(b: &[u8]) -> [u8; N]
     a[..b.len()].copy_from_slice(b);
     a
 }
-
-pub fn array16(b: &[u8]) -> [u8; 16]
-    requires { length b.now ≡ 16 }
-    ensures { result ≡ b.now }
-{
-    array(b)
-}
-
-pub fn array14(b: &[u8]) -> [u8; 14]
-    requires { length b.now ≡ 14 }
-    ensures { result ≡ b.now }
-{
-    array(b)
-}
-
-pub fn filled14(b: &[u8]) -> [u8; 14]
-    requires { length b.now ≤ 14 }
-    ensures { result ≡ b.now ++ replicate (14 - length b.now) 0 }
-{
-    filled(b)
-}

@@ -63,22 +63,6 @@ impl From<Border> for u32 {
     }
 }
 
-// The border's own numbers.
-pub const MEMORY: u32 = 100;
-
-pub const WAY: u32 = 101;
-
-pub const SIZES: u32 = 102;
-
-pub const SUITE: u32 = 103;
-
-// The number of a refusal.
-pub fn number(refusal: Refusal) -> u8
-    ensures { result ≡ number_of refusal }
-{
-    u8::from(refusal)
-}
-
 // The numbers are 1 to 19, and no two refusals share one.
 pub fn refusals_are_numbered()
     ensures { Numbered }

@@ -52,7 +52,7 @@ pub fn open(session: &[u64; SIZE], buf: &[u8], n: usize, way: Way) -> Result<Ope
     }
     let packet = &buf[..n];
     let policy = load_policy(session[0]);
-    let t = tag_length(load_suite(session[0]));
+    let t = load_suite(session[0]).tag_length();
     let layout = judge(packet, way, policy, t)?;
     if buf.len() - n < added(way, policy, layout, t) {
         return Err(Refusal::Room);

@@ -8,8 +8,8 @@ ghost use Rattle.suites.specs.Suites.{suite_of};
 ghost use Rattle.making.specs.Steps.{make_number};
 
 use crate::ids::flags;
-use bits::arrays::{array16, filled14};
-use bits::refusal::{MEMORY, Refusal, SUITE, number};
+use bits::arrays::{array, filled};
+use bits::refusal::{Border, Refusal};
 use session::layout::{FRONT, SIZE};
 use setup_words::keys::session_keys;
 use setup_words::words::front_words;
@@ -19,10 +19,10 @@ use suites::suite::Suite;
 fn judge(suite: Suite, key: usize, salt: usize, policy: u64) -> Result<(), Refusal>
     ensures { MatchResult result (λ _. make_number suite key salt policy ≡ 0) (λ r. (make_number suite key salt policy ≡ number_of r) × (0 < number_of r)) }
 {
-    if key != 16 || salt != salt_length(suite) {
+    if key != 16 || salt != suite.salt_length() {
         return Err(Refusal::Keys);
     }
-    if last_policy(suite) < policy {
+    if suite.last_policy() < policy {
         return Err(Refusal::Policy);
     }
     Ok(())
@@ -42,18 +42,18 @@ pub fn make(
     ensures session_after { length session.old ≡ size → suite < 2 → decode session.new ≡ (make_of (suite_of suite) key.now salt.now policy ids.now).session }
 {
     if session.len() != SIZE {
-        return MEMORY;
+        return u32::from(Border::Memory);
     }
     if 1 < suite {
-        return SUITE;
+        return u32::from(Border::Suite);
     }
     session.fill(0);
-    let suite = suite_of(u64::from(suite));
+    let suite = Suite::from(u64::from(suite));
     if let Err(refusal) = judge(suite, key.len(), salt.len(), policy) {
-        return u32::from(number(refusal));
+        return u32::from(refusal);
     }
-    let key = array16(key);
-    let salt = filled14(salt);
+    let key = array(key);
+    let salt = filled(salt);
     let keys = session_keys(key, salt);
     let front = front_words(suite, policy, key, salt, flags(ids), keys);
     session[..FRONT].copy_from_slice(&front);

@@ -42,7 +42,7 @@ pub fn front_words(
     ensures { Stored (setup_with suite policy key salt ids keys) (with_part 0 result (replicate size 0)) }
 {
     let mut words = [0u64; FRONT];
-    words[0] = MARK + (policy + 4 * suite_number(suite));
+    words[0] = MARK + (policy + 4 * u64::from(suite));
     put(&mut words, MASTER_KEY, &halves(&key));
     put(&mut words, MASTER_SALT, &halves(&salt));
     put(&mut words, IDS, &ids);

@@ -16,11 +16,29 @@ use bits::refusal::Refusal;
 use front::fields::ssrc;
 use front::open::Opened;
 use packet::protect::{protect_packet, unprotect_packet};
+use packet_cipher::context::Context;
 use policies::policy::Way;
 use records::tracks::commit;
 use rtp_header::header::Layout;
 use session::layout::SIZE;
 use session::load::{ids_of, keys_of, load_policy, load_suite};
+
+// What a packet of this SSRC and index is encrypted and authenticated with.
+fn context(session: &[u64; SIZE], ssrc: u32, index: u64) -> Context
+    requires { index < 2 ^ 48 }
+    ensures setup { (result.keys ≡ (setup_at session.now).keys) × (result.ids ≡ (setup_at session.now).ids) }
+    ensures first { (result.suite ≡ suite_at (word session.now 0)) × (result.policy ≡ policy_at (word session.now 0)) }
+    ensures packet { (result.ssrc ≡ ssrc) × (result.index ≡ index) }
+{
+    Context {
+        suite: load_suite(session[0]),
+        keys: keys_of(session),
+        policy: load_policy(session[0]),
+        ids: ids_of(session),
+        ssrc,
+        index,
+    }
+}
 
 // The packet of n bytes at the start of the buffer protected under an index; its new length.
 fn encrypt_at(session: &[u64; SIZE], index: u64, buf: &mut [u8], n: usize, layout: Layout) -> usize
@@ -28,12 +46,8 @@ fn encrypt_at(session: &[u64; SIZE], index: u64, buf: &mut [u8], n: usize, layou
     ensures value { result ≡ wire_length (suite_at (word session.now 0)) (policy_at (word session.now 0)) buf.old n }
     ensures buf_after { buf.new ≡ sent_as session.now index buf.old n }
 {
-    let own = ssrc(&buf[..n]);
-    let suite = load_suite(session[0]);
-    let policy = load_policy(session[0]);
-    let keys = keys_of(session);
-    let ids = ids_of(session);
-    protect_packet(suite, keys, policy, &ids, own, index, buf, n, layout)
+    let context = context(session, ssrc(&buf[..n]), index);
+    protect_packet(&context, buf, n, layout)
 }
 
 // The same unprotected, where its tag is right; otherwise nothing is written.
@@ -42,12 +56,8 @@ fn decrypt_at(session: &[u64; SIZE], index: u64, buf: &mut [u8], n: usize, layou
     ensures value { result ≡ tag_fits (suite_at (word session.now 0)) (setup_at session.now).keys (policy_at (word session.now 0)) (ssrc_of (take n buf.old)) index (take n buf.old) }
     ensures buf_after { buf.new ≡ pick result (received_as session.now index buf.old n) buf.old }
 {
-    let own = ssrc(&buf[..n]);
-    let suite = load_suite(session[0]);
-    let policy = load_policy(session[0]);
-    let keys = keys_of(session);
-    let ids = ids_of(session);
-    unprotect_packet(suite, keys, policy, &ids, own, index, buf, n, layout)
+    let context = context(session, ssrc(&buf[..n]), index);
+    unprotect_packet(&context, buf, n, layout)
 }
 
 // The packet protected, and its index the last one sent; its new length.
@@ -73,7 +83,7 @@ pub fn unprotect_stream(
     if !decrypt_at(session, opened.index, buf, n, opened.layout) {
         return Err(Refusal::Tag);
     }
-    let t = tag_length(load_suite(session[0]));
+    let t = load_suite(session[0]).tag_length();
     commit(session, opened.place, Way::Receiving, opened.index);
     Ok(n - t)
 }

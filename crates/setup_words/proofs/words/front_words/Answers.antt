@@ -45,4 +45,4 @@ returns c =
     (then (place_in setup_layout the_ids) {p = a.ids} c.put-3.ensures refl
     (then (place_in setup_layout the_salt) c.put-2.ensures c.halves-2.ensures.value
     (then (place_in setup_layout the_key) c.put.ensures c.halves.ensures.value
-    (then (place_in setup_layout the_mark) {before = replicate front 0} (stored (replicate front 0) 0 (mark + (a.policy + 4 * c.suite_number.result)) (omega arith)) (ap₂ (λ (p q : ℕ). (mark + (p + 4 * q)) ∷ []) (sym (policy-number a.policy c.requires)) c.suite_number.ensures.0) refl)))))))))))
+    (then (place_in setup_layout the_mark) {before = replicate front 0} (stored (replicate front 0) 0 (mark + (a.policy + 4 * c.from.result)) (omega arith)) (ap₂ (λ (p q : ℕ). (mark + (p + 4 * q)) ∷ []) (sym (policy-number a.policy c.requires)) c.from.ensures.0) refl)))))))))))
