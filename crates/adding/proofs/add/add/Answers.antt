@@ -1,18 +1,16 @@
 -- `adding::add::add` meets its contract.
 use mathlib.Core.Path.{◌≡◌, refl, sym, ap, ap₂, ◌∙◌}
 use mathlib.Core.List.{List}
-use Prim.Native.Nat.{ℕ, ◌+◌, ◌<◌}
+use Prim.Native.Nat.{ℕ, ◌+◌}
 use native.Mathlib.Omega.{arith}
 use lib.ListN.{length}
-use Rattle.bits.specs.Refusals.{number_of}
 use Rattle.policies.specs.declared.policy.Way.{Way}
 use Rattle.session.specs.Records.{fresh_record}
-use Rattle.session.specs.Calls.{way_of, Leaves, add_call}
-use Rattle.session.specs.Memory.{record_place, each, record_words, size}
+use Rattle.session.specs.Calls.{way_of}
+use Rattle.session.specs.Memory.{each, record_words}
 use Rattle.adding.proofs.Ends.{fresh-long, add-memory, add-way, add-placed-in}
 use Rattle.memory.specs.Parts.{with_part}
 use Rattle.memory.proofs.Parts.{came-back}
-use borrow.Author.Rules.{rules}
 use Rattle.adding.proofs.add.add.Goals as goal
 
 pub returns-in_default : goal.returns-in_default

@@ -1,5 +1,5 @@
 -- `adding::add::place_for` meets its contract.
-use Rattle.std.specs.Prelude.{Option, Some, None, Result, Ok, Err, MatchResult, ok_or}
+use Rattle.std.specs.Prelude.{Option, Some, None, Result, MatchResult, ok_or}
 use mathlib.Core.Path.{◌≡◌, refl, sym, ◌∙◌}
 use mathlib.Core.Bool.{true, false}
 use mathlib.Core.List.{List}
