@@ -1,42 +1,37 @@
 // The lines `protect` and `unprotect`.
+use arrayvec::ArrayVec;
 use session::answer::Answer;
-use srtp::protect::protect;
-use srtp::unprotect::unprotect;
-use text::reading::{bytes_at, number_at};
-use text::words::count;
-use text_output::output::{put_hex, put_two};
+use std::fmt;
+use std::fmt::{Display, Formatter, Write};
+use text::reading::{bytes, number};
+use text_output::output::Hex;
 
-// Each call by a function that promises nothing: what the call promises would otherwise be carried through the branch.
-fn protected(session: &mut [u64], buf: &mut [u8], n: usize) -> Answer {
-    protect(session, buf, n)
+// NO LENGTH BUFFER: the buffer is written whole, as the call left it.
+#[derive(Drop)]
+pub struct Packet {
+    answer: Answer,
+    buffer: ArrayVec<u8, 4096>,
 }
 
-fn unprotected(session: &mut [u64], buf: &mut [u8], n: usize) -> Answer {
-    unprotect(session, buf, n)
-}
-
-fn called(session: &mut [u64], sends: bool, buf: &mut [u8], n: usize) -> Answer {
-    if sends {
-        return protected(session, buf, n);
+impl Display for Packet {
+    fn fmt<W: Write>(&self, f: &mut Formatter<W>) -> fmt::Result {
+        let Answer { number, length } = self.answer;
+        let buffer = Hex(&self.buffer);
+        write!(f, "{number} {length} {buffer}")
     }
-    unprotected(session, buf, n)
 }
 
-// NO LENGTH BUFFER
-fn put_packet(session: &mut [u64], sends: bool, buf: &mut [u8], n: usize, out: &mut [u8]) -> usize {
-    let answer = called(session, sends, buf, n);
-    let at = put_two(out, answer.number as u64, answer.length as u64);
-    put_hex(out, at, buf)
-}
-
-// protect S N BUFFER, and unprotect S N BUFFER
-pub fn packet_call(session: &mut [u64], sends: bool, line: &[u8], out: &mut [u8]) -> usize {
-    let n = number_at(line, 2, u64::MAX);
-    let mut buf = [0u8; 4096];
-    let b = bytes_at(line, 3, &mut buf);
-    let length = b.length;
-    if !(n.ok & b.ok & (count(line) == 4)) {
-        return 0;
-    }
-    put_packet(session, sends, &mut buf[0..length], n.value as usize, out)
+// N BUFFER, for `protect` or `unprotect`; `None` where the words cannot be read.
+pub fn packet_call<F>(call: F, session: &mut [u64], words: &[&[u8]]) -> Option<Packet>
+where
+    F: FnOnce(&mut [u64], &mut [u8], usize) -> Answer,
+    requires { F.IsAlwaysCallable call }
+{
+    let [n, buffer] = words else {
+        return None;
+    };
+    let n = number(n)?;
+    let mut buffer = bytes(buffer)?;
+    let answer = call(session, &mut buffer, n);
+    Some(Packet { answer, buffer })
 }

@@ -1,27 +1,49 @@
 // The lines that name a session.
+use crate::commands::reply;
 use crate::packets::packet_call;
 use session::layout::SIZE;
 use setup_lines::add::add_stream;
 use setup_lines::make::make_session;
+use srtp::protect::protect;
+use srtp::unprotect::unprotect;
 use state_lines::state::show_state;
-use text::reading::number_at;
+use std::io;
+use text::reading::number;
 
-// The second word is the session, 0 to 7: its part of the memory is lent on.
-pub fn on_session(desk: &mut [u64], call: usize, line: &[u8], out: &mut [u8]) -> usize {
-    let name = number_at(line, 1, 7);
-    let from = (name.value as usize) * SIZE;
-    let end = from + SIZE;
-    if !name.ok {
-        return 0;
-    }
-    if desk.len() < end {
-        return 0;
-    }
-    let session = &mut desk[from..end];
+// The memory of the eight sessions.
+pub type Desk = [[u64; SIZE]; 8];
+
+#[derive(Clone, Copy)]
+pub enum SessionCall {
+    Make,
+    Add,
+    Protect,
+    Unprotect,
+    State,
+}
+
+// The second word is the session, 0 to 7: its memory is lent on.
+fn named<'a>(desk: &'a mut Desk, name: &[u8]) -> Option<&'a mut [u64; SIZE]> {
+    desk.get_mut(number::<usize>(name)?)
+}
+
+pub fn on_session(
+    rt: &impl Print,
+    desk: &mut Desk,
+    call: SessionCall,
+    words: &[&[u8]],
+) -> io::Result<()> {
+    let [name, rest @ ..] = words else {
+        return rt.println("?");
+    };
+    let Some(session) = named(desk, name) else {
+        return rt.println("?");
+    };
     match call {
-        0 => make_session(session, line, out),
-        1 => add_stream(session, line, out),
-        4 => show_state(session, line, out),
-        _ => packet_call(session, call == 2, line, out),
+        SessionCall::Make => reply(rt, make_session(session, rest)),
+        SessionCall::Add => reply(rt, add_stream(session, rest)),
+        SessionCall::Protect => reply(rt, packet_call(protect, session, rest)),
+        SessionCall::Unprotect => reply(rt, packet_call(unprotect, session, rest)),
+        SessionCall::State => reply(rt, show_state(session, rest)),
     }
 }

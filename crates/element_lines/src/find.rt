@@ -1,34 +1,47 @@
 // The line `find`.
+use arrayvec::ArrayVec;
 use rtp::find::find;
-use text::reading::{bytes_at, number_at};
-use text::words::count;
-use text_output::output::{put_hex, put_two};
+use std::fmt;
+use std::fmt::{Display, Formatter, Write};
+use text::reading::{bytes, number};
+use text_output::output::Hex;
+
+// NO BEGIN DATA.
+#[derive(Drop)]
+pub struct Element {
+    number: u8,
+    begin: usize,
+    part: ArrayVec<u8, 4096>,
+}
+
+impl Display for Element {
+    fn fmt<W: Write>(&self, f: &mut Formatter<W>) -> fmt::Result {
+        let number = self.number;
+        let begin = self.begin;
+        let part = Hex(&self.part);
+        write!(f, "{number} {begin} {part}")
+    }
+}
 
 // Where the first element with an id begins in a packet, as C is told it; 0 for an empty one and for none.
 fn begin(packet: &[u8], id: u8) -> usize {
-    let part = srtp::find::find(packet, id as u32);
-    if part.length == 0 {
-        return 0;
-    }
-    part.begin
+    let part = srtp::find::find(packet, u32::from(id));
+    if part.length == 0 { 0 } else { part.begin }
 }
 
-// NO BEGIN DATA
-fn put_found(packet: &[u8], id: u8, out: &mut [u8]) -> usize {
-    let mut number: u8 = 0;
-    let part = find(packet, id, &mut number);
-    let at = put_two(out, number as u64, begin(packet, id) as u64);
-    put_hex(out, at, part)
-}
-
-// find ID PACKET
-pub fn find_element(line: &[u8], out: &mut [u8]) -> usize {
-    let id = number_at(line, 1, 255);
-    let mut packet = [0u8; 4096];
-    let p = bytes_at(line, 2, &mut packet);
-    let length = p.length;
-    if !(id.ok & p.ok & (count(line) == 3)) {
-        return 0;
-    }
-    put_found(&packet[0..length], (id.value % 256) as u8, out)
+// ID PACKET; `None` where the words cannot be read.
+pub fn find_element(words: &[&[u8]]) -> Option<Element> {
+    let [id, packet] = words else {
+        return None;
+    };
+    let id = number(id)?;
+    let packet = bytes::<4096>(packet)?;
+    let mut number = 0;
+    let part = ArrayVec::try_from(find(&packet, id, &mut number)).ok()?;
+    let begin = begin(&packet, id);
+    Some(Element {
+        number,
+        begin,
+        part,
+    })
 }

@@ -1,21 +1,39 @@
 // The line `mask`.
 ghost use Rattle.std.specs.Prelude.{◌≡◌, ◌≤◌, length};
 
-use bits::refusal::{Refusal, number};
+use arrayvec::ArrayVec;
+use bits::refusal::Refusal;
 use element_cipher::listed::is_listed;
 use making::ids::flags;
 use rtp_elements::element::next;
-use text::reading::{bytes_at, hex_at};
-use text::words::count;
-use text_output::output::{put, put_decimal, put_hex};
+use std::fmt;
+use std::fmt::{Display, Formatter, Write};
+use text::reading::{array, bytes};
+use text_output::output::Hex;
+
+// NO MASK.
+#[derive(Drop)]
+pub struct Mask {
+    covered: Result<ArrayVec<u8, 4096>, Refusal>,
+}
+
+impl Display for Mask {
+    fn fmt<W: Write>(&self, f: &mut Formatter<W>) -> fmt::Result {
+        match &self.covered {
+            Ok(mask) => {
+                let mask = Hex(mask);
+                write!(f, "0 {mask}")
+            }
+            Err(refusal) => {
+                let number = u8::from(*refusal);
+                write!(f, "{number} -")
+            }
+        }
+    }
+}
 
 // The mask of an extension block, onto zeros: FF on the data of listed elements. A refusal's mask is not shown.
-fn cover_listed(
-    block: &[u8],
-    tag: u16,
-    set: [u64; 4],
-    mask: &mut [u8],
-) -> Result<(), Refusal>
+fn cover_listed(block: &[u8], tag: u16, set: [u64; 4], mask: &mut [u8]) -> Result<(), Refusal>
     requires { length mask.old ≡ length block.now }
     ensures { length mask.new ≡ length mask.old }
 {
@@ -31,37 +49,23 @@ fn cover_listed(
     Ok(())
 }
 
-// NO MASK
-fn put_mask(block: &[u8], tag: u16, ids: &[u8], mask: &mut [u8], out: &mut [u8]) -> usize
-    requires { length mask.old ≡ length block.now }
+fn mask_of(block: &[u8], tag: u16, set: [u64; 4]) -> Result<ArrayVec<u8, 4096>, Refusal>
+    requires { length block.now ≤ 4096 }
 {
-    let (number, n) = match cover_listed(block, tag, flags(ids), mask) {
-        Ok(()) => (0, mask.len()),
-        Err(refusal) => (number(refusal), 0),
-    };
-    let mut at = put_decimal(out, 0, number as u64);
-    at = put(out, at, b' ');
-    put_hex(out, at, &mask[0..n])
+    let mut mask = ArrayVec::from([0; 4096]);
+    mask.truncate(block.len());
+    cover_listed(block, tag, set, &mut mask)?;
+    Ok(mask)
 }
 
-// mask TAG BLOCK IDS
-pub fn mask_block(line: &[u8], out: &mut [u8]) -> usize {
-    let tag = hex_at(line, 1, 4);
-    let mut block = [0u8; 4096];
-    let b = bytes_at(line, 2, &mut block);
-    let mut mask = [0u8; 4096];
-    let mut ids = [0u8; 1024];
-    let i = bytes_at(line, 3, &mut ids);
-    let n = b.length;
-    let m = i.length;
-    if !(tag.ok & b.ok & i.ok & (count(line) == 4)) {
-        return 0;
-    }
-    put_mask(
-        &block[0..n],
-        (tag.value % 65536) as u16,
-        &ids[0..m],
-        &mut mask[0..n],
-        out,
-    )
+// TAG BLOCK IDS; `None` where the words cannot be read.
+pub fn mask_block(words: &[&[u8]]) -> Option<Mask> {
+    let [tag, block, ids] = words else {
+        return None;
+    };
+    let tag = u16::from_be_bytes(array(tag)?);
+    let block = bytes::<4096>(block)?;
+    let ids = bytes::<1024>(ids)?;
+    let covered = mask_of(&block, tag, flags(&ids));
+    Some(Mask { covered })
 }

@@ -1,34 +1,26 @@
 // The line `add`.
-use adding::add::add;
-use text::reading::{hex_at, number_at};
-use text::words::{count, word};
-use text_output::output::put_decimal;
+ghost use Rattle.std.specs.Option.{IfNone};
+ghost use Rattle.std.specs.Prelude.{◌≡◌};
 
-// 0 for s and 1 for r, as the call numbers them; 2 for anything else.
-fn way(word: &[u8]) -> u32 {
-    if word.len() != 1 {
-        return 2;
-    }
-    match word[0] {
-        115 => 0,
-        114 => 1,
-        _ => 2,
+use adding::add::add;
+use text::reading::{array, number};
+
+// s and r, as the call numbers them: it takes a number, into which an enum would only be turned again.
+fn way(word: &[u8]) -> Option<u32> {
+    match word {
+        b"s" => Some(0),
+        b"r" => Some(1),
+        _ => None,
     }
 }
 
-// add S SSRC WAY ROLLOVER
-pub fn add_stream(session: &mut [u64], line: &[u8], out: &mut [u8]) -> usize {
-    let ssrc = hex_at(line, 2, 8);
-    let way = way(word(line, 3));
-    let rollover = number_at(line, 4, 4294967295);
-    if !(ssrc.ok & (way < 2) & rollover.ok & (count(line) == 5)) {
-        return 0;
-    }
-    let number = add(
-        session,
-        (ssrc.value % 4294967296) as u32,
-        way,
-        (rollover.value % 4294967296) as u32,
-    );
-    put_decimal(out, 0, number as u64)
+// SSRC WAY ROLLOVER: NO, or `None` where the words cannot be read, which changes nothing.
+pub fn add_stream(session: &mut [u64], words: &[&[u8]]) -> Option<u32>
+    ensures { IfNone result (session.new ≡ session.old) }
+{
+    let [ssrc, way_word, rollover] = words else {
+        return None;
+    };
+    let ssrc = u32::from_be_bytes(array(ssrc)?);
+    Some(add(session, ssrc, way(way_word)?, number(rollover)?))
 }

@@ -1,54 +1,28 @@
 // The line `make`.
+ghost use Rattle.std.specs.Option.{IfNone};
+ghost use Rattle.std.specs.Prelude.{◌≡◌};
+
 use making::make::make;
-use text::reading::{bytes_at, number_at};
-use text::words::{count, first_among, word};
-use text_output::output::put_decimal;
+use text::reading::{bytes, number};
 
-// The suite: 0 for a line without a last word, 1 where that is `gcm`, and 2 where it cannot be read.
-fn suite_at(line: &[u8]) -> u32 {
-    let words = count(line);
-    if words == 6 {
-        return 0;
+// No last word, or `gcm`, as the call numbers the suites: it takes a number, into which an enum would only be turned again.
+fn suite(words: &[&[u8]]) -> Option<u32> {
+    match words {
+        [] => Some(0),
+        [b"gcm"] => Some(1),
+        _ => None,
     }
-    if words != 7 {
-        return 2;
-    }
-    if first_among(word(line, 6), b"gcm") == 0 {
-        return 1;
-    }
-    2
 }
 
-// NO, of a line whose bytes could be read or not.
-fn put_made(
-    session: &mut [u64],
-    line: &[u8],
-    ok: bool,
-    key: &[u8],
-    salt: &[u8],
-    ids: &[u8],
-    out: &mut [u8],
-) -> usize {
-    let policy = number_at(line, 4, u64::MAX);
-    let suite = suite_at(line);
-    if !(ok & policy.ok & (suite < 2)) {
-        return 0;
-    }
-    let number = make(session, key, salt, policy.value, ids, suite);
-    put_decimal(out, 0, number as u64)
-}
-
-// make S KEY SALT POLICY IDS, and gcm for the second suite
-pub fn make_session(session: &mut [u64], line: &[u8], out: &mut [u8]) -> usize {
-    let mut key = [0u8; 1024];
-    let k = bytes_at(line, 2, &mut key);
-    let mut salt = [0u8; 1024];
-    let s = bytes_at(line, 3, &mut salt);
-    let mut ids = [0u8; 1024];
-    let i = bytes_at(line, 5, &mut ids);
-    let ok = k.ok & s.ok & i.ok;
-    let a = k.length;
-    let b = s.length;
-    let c = i.length;
-    put_made(session, line, ok, &key[0..a], &salt[0..b], &ids[0..c], out)
+// KEY SALT POLICY IDS, and gcm for the second suite: NO, or `None` where the words cannot be read, which changes nothing.
+pub fn make_session(session: &mut [u64], words: &[&[u8]]) -> Option<u32>
+    ensures { IfNone result (session.new ≡ session.old) }
+{
+    let [key, salt, policy, ids, last @ ..] = words else {
+        return None;
+    };
+    let key = bytes::<1024>(key)?;
+    let salt = bytes::<1024>(salt)?;
+    let ids = bytes::<1024>(ids)?;
+    Some(make(session, &key, &salt, number(policy)?, &ids, suite(last)?))
 }

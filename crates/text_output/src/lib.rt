@@ -1,4 +1,4 @@
-// A line of output, put together in a buffer.
+// Parts of a line of output.
 // Follows docs/CALLS.md.
 #![tactic(auto)]
 
