@@ -1,6 +1,7 @@
 // The index of a packet, by the two steps alone.
+use bits::refusal::Refusal;
 use lines::outcome;
-use replay::answer::{Judged, tell};
+use replay::answer::tell;
 use replay::receive::{accept, receive};
 use replay::send;
 use std::io;
