@@ -1,4 +1,4 @@
-// Words of a line, and numbers and bytes in it.
+// Words of a line, and numbers and bytes in them.
 // Follows docs/CALLS.md.
 #![tactic(auto)]
 

@@ -1,8 +1,6 @@
-use Rattle.std.proofs.Common.{◌-◌, ◌≤◌}
+use Rattle.std.proofs.Common.{◌≡◌, length}
 use Rattle.text.proofs.reading.bytes.Given as goal
 
-abbrev pub invariant-loop-i : goal.invariant-loop-i
-invariant-loop-i l = l.i ≤ l.n
-
-abbrev pub decreases-loop-i : goal.decreases-loop-i
-decreases-loop-i l = l.n - l.i
+-- a pair of digits is a byte
+abbrev pub invariant-loop-high : goal.invariant-loop-high
+invariant-loop-high g l = length l.bytes.items ≡ l.high-index
