@@ -4,3 +4,4 @@ pub mod Bits
 pub mod Xor
 pub mod BigEndian
 pub mod Refusals
+pub mod Portion

@@ -2,6 +2,8 @@
 use Rattle.std.specs.Prelude.{◌≡◌, List, [], ◌∷◌, map, ℕ, ◌-◌, get_or}
 use Rattle.bits.specs.declared.refusal.Refusal.{Refusal}
 use Rattle.bits.specs.declared.refusal.Refusal.TheVariants.{Length, Short, Version, Header, Profile, Element, Large, Room, Stream, Order, Worn, Old, Repeat, Tag, Keys, Policy, Twice, Full, Absent}
+use Rattle.bits.specs.declared.refusal.Border.{Border}
+use Rattle.bits.specs.declared.refusal.Border.TheVariants.{Memory, Way, Sizes, Suite}
 
 -- the number that a call gives back for a refusal
 abbrev pub number_of : Refusal → ℕ
@@ -55,3 +57,9 @@ wrong_sizes = 102
 -- a suite that is neither 0, AES_CM_128_HMAC_SHA1_80, nor 1, AEAD_AES_128_GCM (document 02, CR 3)
 abbrev pub wrong_suite : ℕ
 wrong_suite = 103
+
+abbrev pub border_number_of : Border → ℕ
+border_number_of Memory = wrong_memory
+border_number_of Way = wrong_way
+border_number_of Sizes = wrong_sizes
+border_number_of Suite = wrong_suite

@@ -1,4 +1,5 @@
 // Numbers of two, four and eight bytes in network byte order, read; and of four and eight, written.
+// std's methods, one a width, under the definitions that every crate's specs cite: a trait over the widths would take the number that a value is as a ghost member.
 ghost use Rattle.std.specs.Prelude.{◌≡◌};
 ghost use Rattle.bits.specs.BigEndian.{from_bytes, to_bytes};
 
@@ -6,51 +7,33 @@ ghost use Rattle.bits.specs.BigEndian.{from_bytes, to_bytes};
 pub fn read16(b: [u8; 2]) -> u16
     ensures { result ≡ from_bytes b }
 {
-    (b[0] as u16) * 256 + (b[1] as u16)
+    u16::from_be_bytes(b)
 }
 
 // The number that four bytes are.
 pub fn read32(b: [u8; 4]) -> u32
     ensures { result ≡ from_bytes b }
 {
-    let high = read16([b[0], b[1]]);
-    let low = read16([b[2], b[3]]);
-    (high as u32) * 65536 + (low as u32)
+    u32::from_be_bytes(b)
 }
 
 // The number that eight bytes are.
 pub fn read64(b: [u8; 8]) -> u64
     ensures { result ≡ from_bytes b }
 {
-    let high = read32([b[0], b[1], b[2], b[3]]);
-    let low = read32([b[4], b[5], b[6], b[7]]);
-    (high as u64) * 4294967296 + (low as u64)
+    u64::from_be_bytes(b)
 }
 
 // The four bytes of a number.
 pub fn write32(x: u32) -> [u8; 4]
     ensures { result ≡ to_bytes 4 x }
 {
-    [
-        (x / 16777216 % 256) as u8,
-        (x / 65536 % 256) as u8,
-        (x / 256 % 256) as u8,
-        (x % 256) as u8,
-    ]
+    u32::to_be_bytes(x)
 }
 
 // The eight bytes of a number.
 pub fn write64(x: u64) -> [u8; 8]
     ensures { result ≡ to_bytes 8 x }
 {
-    [
-        (x / 72057594037927936 % 256) as u8,
-        (x / 281474976710656 % 256) as u8,
-        (x / 1099511627776 % 256) as u8,
-        (x / 4294967296 % 256) as u8,
-        (x / 16777216 % 256) as u8,
-        (x / 65536 % 256) as u8,
-        (x / 256 % 256) as u8,
-        (x % 256) as u8,
-    ]
+    u64::to_be_bytes(x)
 }

@@ -4,4 +4,5 @@
 
 pub mod arrays;
 pub mod big_endian;
+pub mod portion;
 pub mod refusal;

@@ -1,67 +1,82 @@
-// The refusals of document 01 ("Numbers given back"), a name for each number, and those of the border.
+// The refusals of document 01 ("Numbers given back"), each with its number, and those of the border.
 ghost use Rattle.std.specs.Prelude.{◌≡◌};
-ghost use Rattle.bits.specs.Refusals.{number_of, Numbered};
+ghost use Rattle.bits.specs.Refusals.{number_of, border_number_of, Numbered};
 
-#[derive(Clone, Copy)]
+// The discriminant is the number that a call gives back.
+#[derive(Clone, Copy, Debug, PartialEq, Eq)]
 pub enum Refusal {
-    Length,
-    Short,
-    Version,
-    Header,
-    Profile,
-    Element,
-    Large,
-    Room,
-    Stream,
-    Order,
-    Worn,
-    Old,
-    Repeat,
-    Tag,
-    Keys,
-    Policy,
-    Twice,
-    Full,
-    Absent,
+    Length = 1,
+    Short = 2,
+    Version = 3,
+    Header = 4,
+    Profile = 5,
+    Element = 6,
+    Large = 7,
+    Room = 8,
+    Stream = 9,
+    Order = 10,
+    Worn = 11,
+    Old = 12,
+    Repeat = 13,
+    Tag = 14,
+    Keys = 15,
+    Policy = 16,
+    Twice = 17,
+    Full = 18,
+    Absent = 19,
 }
 
-// The border's own: session memory of another size.
+impl From<Refusal> for u8 {
+    ghost from_gives = { λ refusal n. n ≡ number_of refusal };
+
+    fn from(refusal: Refusal) -> u8 {
+        refusal as u8
+    }
+}
+
+impl From<Refusal> for u32 {
+    ghost from_gives = { λ refusal n. n ≡ number_of refusal };
+
+    fn from(refusal: Refusal) -> u32 {
+        u32::from(u8::from(refusal))
+    }
+}
+
+// The border's own: what a caller can pass and the types within cannot hold.
+#[derive(Clone, Copy, Debug, PartialEq, Eq)]
+pub enum Border {
+    // Session memory of another size.
+    Memory = 100,
+    // A way that is neither 0, sending, nor 1, receiving.
+    Way = 101,
+    // A key that is not 16 bytes, or a salt that is not 14, lent to the keystream.
+    Sizes = 102,
+    // A suite that is neither 0, AES_CM_128_HMAC_SHA1_80, nor 1, AEAD_AES_128_GCM.
+    Suite = 103,
+}
+
+impl From<Border> for u32 {
+    ghost from_gives = { λ border n. n ≡ border_number_of border };
+
+    fn from(border: Border) -> u32 {
+        border as u32
+    }
+}
+
+// The border's own numbers.
 pub const MEMORY: u32 = 100;
 
-// A way that is neither 0, sending, nor 1, receiving.
 pub const WAY: u32 = 101;
 
-// A key that is not 16 bytes, or a salt that is not 14, lent to the keystream.
 pub const SIZES: u32 = 102;
 
-// A suite that is neither 0, AES_CM_128_HMAC_SHA1_80, nor 1, AEAD_AES_128_GCM.
 pub const SUITE: u32 = 103;
 
-// The number that a call gives back for a refusal.
+// The number of a refusal.
 pub fn number(refusal: Refusal) -> u8
     ensures { result ≡ number_of refusal }
 {
-    match refusal {
-        Refusal::Length => 1,
-        Refusal::Short => 2,
-        Refusal::Version => 3,
-        Refusal::Header => 4,
-        Refusal::Profile => 5,
-        Refusal::Element => 6,
-        Refusal::Large => 7,
-        Refusal::Room => 8,
-        Refusal::Stream => 9,
-        Refusal::Order => 10,
-        Refusal::Worn => 11,
-        Refusal::Old => 12,
-        Refusal::Repeat => 13,
-        Refusal::Tag => 14,
-        Refusal::Keys => 15,
-        Refusal::Policy => 16,
-        Refusal::Twice => 17,
-        Refusal::Full => 18,
-        Refusal::Absent => 19,
-    }
+    u8::from(refusal)
 }
 
 // The numbers are 1 to 19, and no two refusals share one.
