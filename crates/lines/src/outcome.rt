@@ -1,26 +1,23 @@
 // What a call came to, as the end of a line of output.
+use std::fmt;
+use std::fmt::Display;
 use std::io;
 
-// A word and a number, as "length 46"; or "refused 8" with document 01's number.
-fn put(rt: &impl Print, refused: u32, word: &[u8], number: u64) -> io::Result<()> {
-    if refused == 0 {
-        rt.write_all(word)?;
-        print!(rt; "{number}")
-    } else {
-        print!(rt; "refused {refused}")
+// A refusal, by document 01's number.
+#[derive(Clone, Copy, Debug, PartialEq, Eq)]
+pub struct Refused(pub u32);
+
+impl Display for Refused {
+    fn fmt<W: fmt::Write>(&self, f: &mut fmt::Formatter<W>) -> fmt::Result {
+        let number = self.0;
+        write!(f, "refused {number}")
     }
 }
 
-pub fn one(rt: &impl Print, refused: u32, word: &[u8], number: u64) -> io::Result<()> {
-    put(rt, refused, word, number)?;
-    rt.write_all(b"\n")
-}
-
-// "given back, length 13, payload 1".
-pub fn given_back(rt: &impl Print, refused: u32, length: usize, payload: u8) -> io::Result<()> {
-    put(rt, refused, b"given back, length ", length as u64)?;
-    if refused == 0 {
-        put(rt, refused, b", payload ", payload as u64)?;
+// What was called for, as "length 46"; or "refused 8".
+pub fn put_line<T: Display + Drop>(rt: &impl Print, outcome: Result<T, Refused>) -> io::Result<()> {
+    match outcome {
+        Ok(told) => println!(rt; "{told}"),
+        Err(refused) => println!(rt; "{refused}"),
     }
-    rt.write_all(b"\n")
 }
