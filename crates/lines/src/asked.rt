@@ -1,6 +1,4 @@
 // A line that asks for something: its name, and behind a colon and a space the data.
-ghost use Rattle.std.specs.Prelude.{◌≡◌};
-
 use crate::number::last_two;
 
 #[derive(Clone, Copy)]

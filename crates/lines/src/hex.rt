@@ -26,7 +26,9 @@ pub fn padded<const N: usize>(word: &[u8]) -> [u8; N] {
     let mut padded = [0; N];
     let (pairs, odd) = word.as_chunks::<2>();
     if odd.is_empty() && pairs.len() <= N {
-        let bytes = pairs.iter().map_while(|pair| array(pair).map(u8::from_be_bytes));
+        let bytes = pairs
+            .iter()
+            .map_while(|pair| array(pair).map(u8::from_be_bytes));
         for (to, byte) in padded.iter_mut().zip(bytes) {
             *to = byte;
         }

@@ -1,21 +1,46 @@
 // What a call came to, as the end of a line of output.
-use std::fmt;
-use std::fmt::Display;
-use std::io;
+use bits::refusal::Refusal;
+use std::{fmt, io};
+
+// What was called for.
+#[derive(Clone, Copy, Debug, PartialEq, Eq)]
+pub enum Told {
+    Index(u64),
+    Length(usize),
+    GivenBack { length: usize, payload: u8 },
+}
+
+impl fmt::Display for Told {
+    fn fmt<W: fmt::Write>(&self, f: &mut fmt::Formatter<W>) -> fmt::Result {
+        match self {
+            Told::Index(index) => write!(f, "index {index}"),
+            Told::Length(length) => write!(f, "length {length}"),
+            Told::GivenBack { length, payload } => write!(
+                f,
+                "given back, length {length}, payload {payload}"
+            ),
+        }
+    }
+}
 
 // A refusal, by document 01's number.
 #[derive(Clone, Copy, Debug, PartialEq, Eq)]
 pub struct Refused(pub u32);
 
-impl Display for Refused {
+impl From<Refusal> for Refused {
+    fn from(refusal: Refusal) -> Self {
+        Refused(u32::from(refusal))
+    }
+}
+
+impl fmt::Display for Refused {
     fn fmt<W: fmt::Write>(&self, f: &mut fmt::Formatter<W>) -> fmt::Result {
         let number = self.0;
         write!(f, "refused {number}")
     }
 }
 
-// What was called for, as "length 46"; or "refused 8".
-pub fn put_line<T: Display + Drop>(rt: &impl Print, outcome: Result<T, Refused>) -> io::Result<()> {
+pub fn put_line(rt: &impl Print, outcome: Result<Told, Refused>) -> io::Result<()> {
     match outcome {
         Ok(told) => println!(rt; "{told}"),
         Err(refused) => println!(rt; "{refused}"),
