@@ -1,7 +1,7 @@
 // AES on one block, and in counter mode.
 use aes::blocks::state;
 use aes::cipher::aes128;
-use aes_cm::derivation::derive;
+use aes_cm::derivation::{SessionKeys, derive};
 use keystream::call::stretch_call;
 use lines::arrays::padded;
 use lines::hex::Hex;
@@ -29,16 +29,19 @@ pub fn neighbours(rt: &impl Print, key: &[u8], salt: &[u8], j: u64) -> io::Resul
     println!(rt; "{}{}", Hex(&front), Hex(&back))
 }
 
-// What is derived for a label from a master key and salt.
-pub fn derived(rt: &impl Print, key: &[u8], salt: &[u8], label: u64) -> io::Result<()> {
-    let keys = derive(padded(key), padded(salt));
-    // The documents name what is derived by these numbers alone (RFC 3711, 4.3.2, and RFC 6904, 4.1), and so do the vectors' lines.
-    let part: &[u8] = match label {
+// The documents name what is derived by these numbers alone (RFC 3711, 4.3.2, and RFC 6904, 4.1), and so do the vectors' lines.
+fn labelled(keys: &SessionKeys, label: u64) -> &[u8] {
+    match label {
         0 => &keys.cipher,
         1 => &keys.auth,
         2 => &keys.salt,
         6 => &keys.header_cipher,
         _ => &keys.header_salt,
-    };
-    println!(rt; "{}", Hex(part))
+    }
+}
+
+// What is derived for a label from a master key and salt.
+pub fn derived(rt: &impl Print, key: &[u8], salt: &[u8], label: u64) -> io::Result<()> {
+    let keys = derive(padded(key), padded(salt));
+    println!(rt; "{}", Hex(labelled(&keys, label)))
 }
