@@ -1,4 +1,8 @@
 // A line that asks for something: its name, and behind a colon and a space the data.
+ghost use Rattle.std.specs.Prelude.{◌≡◌};
+ghost use Rattle.std.specs.List.{position};
+ghost use Rattle.lines.specs.Asked.{is_colon, IsCut};
+
 use crate::number::last_two;
 
 #[derive(Clone, Copy)]
@@ -7,10 +11,17 @@ pub struct Asked<'a> {
     pub data: &'a [u8],
 }
 
+fn colon(line: &[u8]) -> Option<usize>
+    ensures { result ≡ position is_colon line.now }
+{
+    line.iter().position(|b| *b == b':')
+}
+
 impl<'a> From<&'a [u8]> for Asked<'a> {
+    ghost from_gives = { λ line asked. IsCut line.now asked.name.now asked.data.now };
+
     fn from(line: &'a [u8]) -> Self {
-        let colon = line.iter().position(|b| *b == b':');
-        let (name, rest) = line.split_at(colon.unwrap_or(line.len()));
+        let (name, rest) = line.split_at(colon(line).unwrap_or(line.len()));
         Asked {
             name,
             data: rest.get(2..).unwrap_or_default(),
