@@ -3,7 +3,7 @@ use arrayvec::ArrayVec;
 use std::fmt;
 use text::reading::{array, bytes};
 
-// Bytes to be printed, two digits each.
+// Bytes to be printed, two digits each. No bytes are no digits, where a line of the call script has a dash.
 #[derive(Clone, Copy)]
 pub struct Hex<'a>(pub &'a [u8]);
 
