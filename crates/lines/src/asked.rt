@@ -1,4 +1,4 @@
-// A line that asks for something: its name, and behind a colon and a space the data.
+// A line that asks for something: its name, and behind a colon and a space what is given.
 ghost use Rattle.std.specs.Prelude.{◌≡◌};
 ghost use Rattle.std.specs.List.{position};
 ghost use Rattle.lines.specs.Asked.{is_colon, IsCut};
@@ -8,7 +8,7 @@ use crate::number::last_two;
 #[derive(Clone, Copy)]
 pub struct Asked<'a> {
     pub name: &'a [u8],
-    pub data: &'a [u8],
+    pub given: &'a [u8],
 }
 
 fn colon(line: &[u8]) -> Option<usize>
@@ -18,13 +18,13 @@ fn colon(line: &[u8]) -> Option<usize>
 }
 
 impl<'a> From<&'a [u8]> for Asked<'a> {
-    ghost from_gives = { λ line asked. IsCut line.now asked.name.now asked.data.now };
+    ghost from_gives = { λ line asked. IsCut line.now asked.name.now asked.given.now };
 
     fn from(line: &'a [u8]) -> Self {
         let (name, rest) = line.split_at(colon(line).unwrap_or(line.len()));
         Asked {
             name,
-            data: rest.get(2..).unwrap_or_default(),
+            given: rest.get(2..).unwrap_or_default(),
         }
     }
 }

@@ -3,7 +3,7 @@ use bits::refusal::Refusal;
 use std::{fmt, io};
 
 // What was called for.
-#[derive(Clone, Copy, Debug, PartialEq, Eq)]
+#[derive(Clone, Copy)]
 pub enum Told {
     Index(u64),
     Length(usize),
@@ -24,7 +24,7 @@ impl fmt::Display for Told {
 }
 
 // A refusal, by document 01's number.
-#[derive(Clone, Copy, Debug, PartialEq, Eq)]
+#[derive(Clone, Copy)]
 pub struct Refused(pub u32);
 
 impl From<Refusal> for Refused {

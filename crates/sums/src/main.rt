@@ -41,7 +41,7 @@ impl Sum {
 // A sum of the numbers in a line's name and, of packets, the hex behind it.
 fn answer(rt: &impl Print, line: &[u8], pair: &mut Pair) -> io::Result<()> {
     let asked = Asked::from(line);
-    let hex = asked.data;
+    let hex = asked.given;
     let (before, last) = asked.numbers();
     rt.write_all(asked.name)?;
     print!(rt; ": ")?;
