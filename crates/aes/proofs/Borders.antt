@@ -1,4 +1,4 @@
--- The laws of the border: what is lent, what was begun, and a block by its number.
+-- The laws of the border: what was begun, and a block by its number.
 use mathlib.Core.Path.{◌≡◌, refl, sym, ap, ap₂, subst}
 use mathlib.Core.List.{List, [], ◌∷◌}
 use Prim.Native.Nat.{ℕ, ◌/◌, ◌%◌}
@@ -7,24 +7,12 @@ use lib.ListN.{get_or}
 use Rattle.bits.specs.Xor.{◌⊕◌}
 use Rattle.aes_tables.specs.Cipher.{at, state_of, bytes_of, add_round_key, cipher_of}
 use Rattle.aes_tables.specs.Keys.{round_keys_of, aes128_of}
-use Rattle.aes_tables.specs.Tables.{SboxTable, RoundTable}
 use Rattle.aes_begin.specs.declared.begin.Begun.{Begun}
 use Rattle.aes_begin.specs.Steps.{Begins}
 use Rattle.aes_begin.proofs.Beginning.{alike}
-use Rattle.aes.specs.declared.blocks.Start.{Start}
-use Rattle.aes.specs.Blocks.{numbered_of, block_from, byte_from, Lent, Started}
+use Rattle.aes.specs.Blocks.{numbered_of, block_from, byte_from, Started}
 
 -- ---- for callers
-
--- what to lend: the two tables, and the round keys that `round_keys` makes
-pub lent : (sbox table : List ℕ) (keys : List (List (List ℕ))) (key : List ℕ) → SboxTable sbox → RoundTable table → keys ≡ round_keys_of (state_of key)
-    → Lent sbox table keys key
-unfolding Lent
-lent sbox table keys key s t e = (s, (t, e))
-
--- what is lent for a key is lent for a start of that key
-pub lent-start : (sbox table : List ℕ) (keys : List (List (List ℕ))) (key : List ℕ) (s : Start) → s.key ≡ key → Lent sbox table keys key → Lent sbox table keys s.key
-lent-start sbox table keys key s e h = subst (Lent sbox table keys) (sym e) h
 
 -- a block whose numbered starting block is known
 pub block-of : (key start b : List ℕ) (j : ℕ) → numbered_of start j ≡ b → block_from key start j ≡ bytes_of (aes128_of (state_of key) (state_of b))
@@ -37,26 +25,13 @@ byte-of key start k = refl
 
 -- ---- for the code behind it
 
-module _ (sbox table : List ℕ) (keys : List (List (List ℕ))) (key : List ℕ) (h : Lent sbox table keys key) where
-  pub sbox-of : SboxTable sbox
-  unfolding Lent
-  sbox-of = h.0
-
-  pub table_of : RoundTable table
-  unfolding Lent
-  table_of = h.1.0
-
-  pub keys_of : keys ≡ round_keys_of (state_of key)
-  unfolding Lent
-  keys_of = h.1.1
-
 -- what the cipher asks of a state before its first round
 abbrev pub BegunFor : List (List (List ℕ)) → List (List ℕ) → Begun → Type 0
 BegunFor keys block b = Begins (add_round_key block (get_or keys 0 [])) (get_or keys 1 []) (get_or keys 2 []) b
 
-pub started : (keys : List (List (List ℕ))) (s : Start) → keys ≡ round_keys_of (state_of s.key) → BegunFor keys (state_of s.block) s.begun → Started s
-unfolding Started
-started keys s e h = subst (λ (ks : List (List (List ℕ))). BegunFor ks (state_of s.block) s.begun) e h
+pub started : (keys : List (List (List ℕ))) (key block : List ℕ) (b : Begun) → keys ≡ round_keys_of (state_of key) → BegunFor keys (state_of block) b
+    → Started key block b
+started keys key block b e h = subst (λ (ks : List (List (List ℕ))). BegunFor ks (state_of block) b) e h
 
 -- the starting block as the code numbers it
 abbrev pub numbered : List ℕ → ℕ → ℕ → List (List ℕ)
@@ -68,12 +43,12 @@ numbered b x y =
     ∷ []
 
 -- what was begun of the starting block was begun of each of its blocks
-pub begun-of : (keys : List (List (List ℕ))) (s : Start) (x y : ℕ) → keys ≡ round_keys_of (state_of s.key) → Started s → BegunFor keys (numbered s.block x y) s.begun
-unfolding Started
-begun-of keys s x y e h =
+pub begun-of : (keys : List (List (List ℕ))) (key block : List ℕ) (b : Begun) (x y : ℕ) → keys ≡ round_keys_of (state_of key) → Started key block b
+    → BegunFor keys (numbered block x y) b
+begun-of keys key block b x y e h =
     let k = get_or keys 0 [] in
-    alike (add_round_key (state_of s.block) k) (get_or keys 1 []) (get_or keys 2 []) s.begun (x ⊕ at k 2 3) (y ⊕ at k 3 3)
-    (subst (λ (ks : List (List (List ℕ))). BegunFor ks (state_of s.block) s.begun) (sym e) h)
+    alike (add_round_key (state_of block) k) (get_or keys 1 []) (get_or keys 2 []) b (x ⊕ at k 2 3) (y ⊕ at k 3 3)
+    (subst (λ (ks : List (List (List ℕ))). BegunFor ks (state_of block) b) (sym e) h)
 
 pub block-is : (keys : List (List (List ℕ))) (key start : List ℕ) (j : ℕ) → keys ≡ round_keys_of (state_of key)
     → bytes_of (cipher_of (numbered start (j / 256 % 256) (j % 256)) keys) ≡ block_from key start j

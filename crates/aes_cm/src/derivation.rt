@@ -20,8 +20,8 @@ fn derived(key: [u8; 16], salt: [u8; 14], label: u8, zeros: &mut [u8])
     ensures { zeros.new ≡ derived_of key salt label (length zeros.old) }
 {
     let mut x = salt;
-    x[7] = x[7] ^ label;
-    stretch(key, x, 0, 0, 0, zeros);
+    x[7] ^= label;
+    let _ = stretch(key, x, 0, 0, 0, zeros);
 }
 
 // The five session keys.

@@ -2,12 +2,14 @@
 ghost use Rattle.std.specs.Prelude.{◌≡◌};
 ghost use Rattle.aes_counter.specs.Keystream.{counter_of};
 
+use bits::big_endian::{write32, write64};
+
 // The input of block 0. An index of 2^48 or more is no packet's; its upper bytes meet the SSRC's last two, as the equation in RFC 3711 has it.
 pub fn iv(salt: [u8; 14], ssrc: u32, index: u64) -> [u8; 16]
     ensures { result ≡ counter_of salt ssrc index 0 }
 {
-    let q = bits::big_endian::write32(ssrc);
-    let i = bits::big_endian::write64(index);
+    let q = write32(ssrc);
+    let i = write64(index);
     [
         salt[0],
         salt[1],

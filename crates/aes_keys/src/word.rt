@@ -2,7 +2,9 @@
 ghost use Rattle.std.specs.Prelude.{◌≡◌};
 ghost use Rattle.bits.specs.Xor.{xor_list};
 ghost use Rattle.aes_tables.specs.Keys.{sub_word};
-ghost use Rattle.aes_tables.specs.Tables.{SboxTable, unpack_of};
+ghost use Rattle.aes_tables.specs.Tables.{unpack_of};
+
+use aes_tables::tables::Tables;
 
 pub fn xor(a: [u8; 4], b: [u8; 4]) -> [u8; 4]
     ensures { result ≡ xor_list a b }
@@ -11,32 +13,21 @@ pub fn xor(a: [u8; 4], b: [u8; 4]) -> [u8; 4]
 }
 
 // Each byte through the S-box.
-pub fn substitute(sbox: &[u8; 256], a: [u8; 4]) -> [u8; 4]
-    requires { SboxTable sbox.now }
+pub fn substitute(tables: Tables<'_>, a: [u8; 4]) -> [u8; 4]
     ensures { result ≡ sub_word a }
 {
-    [
-        sbox[a[0] as usize],
-        sbox[a[1] as usize],
-        sbox[a[2] as usize],
-        sbox[a[3] as usize],
-    ]
+    a.map(|x| tables.sbox[x as usize])
 }
 
 // The word as one number, its first byte the lowest, which is how the round table has its entries.
 pub fn pack(a: [u8; 4]) -> u32
     ensures { unpack_of result ≡ a }
 {
-    (a[0] as u32) + (a[1] as u32) * 256 + (a[2] as u32) * 65536 + (a[3] as u32) * 16777216
+    u32::from_le_bytes(a)
 }
 
 pub fn unpack(w: u32) -> [u8; 4]
     ensures { result ≡ unpack_of w }
 {
-    [
-        (w % 256) as u8,
-        (w / 256 % 256) as u8,
-        (w / 65536 % 256) as u8,
-        (w / 16777216 % 256) as u8,
-    ]
+    w.to_le_bytes()
 }

@@ -13,16 +13,9 @@ use Rattle.aes_keystream.specs.declared.keystream.Keystream.{Keystream}
 use Rattle.aes.specs.Blocks.{block_from, byte_from}
 use Rattle.aes.proofs.Borders.{byte-of}
 use Rattle.stretches.specs.Stretch.{keystream_end, stretch_by, stretch_pad}
-use Rattle.aes_keystream.specs.Steps.{span_of, Holds, Used}
+use Rattle.aes_keystream.specs.Steps.{span_of, Span, Holds, Used}
 use Rattle.stretches.proofs.Stretches.{at_in, stretch-done, stretch-part, stretch-join}
 use Rattle.stretches.proofs.Parts.{served-bytes}
-
--- the span: all that is left, or up to the block's end
-pub record Span (from left n : ℕ) : Type 0 where
-  pub fits : from + n ≤ 16
-  pub within : n ≤ left
-  pub forward : 0 < left → 0 < n
-  pub whole : n < left → from + n ≡ 16
 
 pub spanned : (from left n : ℕ) → from < 16 → n ≡ span_of from left → Span from left n
 spanned from left n h e =
@@ -48,9 +41,9 @@ module _ (key start : List ℕ) where
 
   -- bytes of the block that is held
   pub held : (l : List ℕ) (s : Keystream) (n : ℕ) (ys : List ℕ) → (s.at % 16 ≡ 0 → ⊥) → Span (s.at % 16) (length l) n
-      → ys ≡ xor_pad (λ k. get_or s.block (s.at % 16 + k) 0) (take (n - 0) (drop 0 l)) → Holds key start s
+      → ys ≡ xor_pad (λ k. get_or s.block (s.at % 16 + k) 0) (take n l) → Holds key start s
       → Holds key start (record { block = s.block; at = s.at + n })
-      × (take 0 l ++ (ys ++ drop (n - 0) (drop 0 l)) ≡ xor_pad (stretch_pad 0 (s.at + n - s.at) s.at (byte_from key start)) l)
+      × (ys ++ drop n l ≡ xor_pad (stretch_pad 0 (s.at + n - s.at) s.at (byte_from key start)) l)
   held l s n ys u p ey h =
       let o = s.at in
       let stream = byte_from key start in
@@ -59,10 +52,13 @@ module _ (key start : List ℕ) where
       let eb = h.block u in
       let part = take (n - 0) (drop 0 l) in
       let lp : length part ≡ n = length-take-le (n - 0) (drop 0 l) (omega arith) ∙ omega arith in
+      let y : n ≡ n - 0 = omega arith in
       let z : n ≡ o + n - o = omega arith in (
         holds-next s.block o n eb f,
-        stretch-part 0 n o stream l ys (omega arith) (omega arith)
-            (ey ∙ pad-ext (λ k. get_or s.block (o % 16 + k) 0) (λ k. stream (o + k)) part (λ k b. in_block s.block o k eb (omega arith)))
+        ap (λ (m : ℕ). ys ++ drop m l) y
+            ∙ stretch-part 0 n o stream l ys (omega arith) (omega arith)
+            (ey ∙ ap (λ (m : ℕ). xor_pad (λ k. get_or s.block (o % 16 + k) 0) (take m l)) y
+            ∙ pad-ext (λ k. get_or s.block (o % 16 + k) 0) (λ k. stream (o + k)) part (λ k b. in_block s.block o k eb (omega arith)))
             ∙ ap (λ (m : ℕ). xor_pad (stretch_pad 0 m o stream) l) z,
       )
 

@@ -8,6 +8,13 @@ use Rattle.aes.specs.Blocks.{block_from}
 abbrev pub span_of : ℕ → ℕ → ℕ
 span_of from left = pick (ltb left (16 - from)) left (16 - from)
 
+-- so all that is left, or up to the block's end
+pub record Span (from left n : ℕ) : Type 0 where
+  pub fits : from + n ≤ 16
+  pub within : n ≤ left
+  pub forward : 0 < left → 0 < n
+  pub whole : n < left → from + n ≡ 16
+
 -- the keystream has the block of its next byte, unless that block is still to be made
 pub record Holds (key start : List ℕ) (s : Keystream) : Type 0 where
   pub block : (s.at % 16 ≡ 0 → ⊥) → s.block ≡ block_from key start (s.at / 16)

@@ -2,11 +2,11 @@
 // to the next stretch, so that a block which both share is made once.
 ghost use Rattle.std.specs.Prelude.{◌≡◌, List, false, ℕ, ◌+◌, ◌-◌, ◌<◌, length};
 ghost use Rattle.bits.specs.Xor.{xor_pad};
-ghost use Rattle.aes.specs.Blocks.{byte_from, Lent, Started};
+ghost use Rattle.aes.specs.Blocks.{byte_from};
 ghost use Rattle.stretches.specs.Stretch.{is_large, stretch_by, stretch_pad};
-ghost use Rattle.aes_keystream.specs.Steps.{span_of, Holds, Used};
+ghost use Rattle.aes_keystream.specs.Steps.{span_of, Span, Holds, Used};
 
-use aes::blocks::{Start, block};
+use aes::blocks::{Blocks, block};
 use block_xor::part::{xor_bytes, xor_part};
 
 // The next byte of the keystream is number `at`; `block` is the block it stands in, unless that is still to be made.
@@ -19,12 +19,10 @@ pub struct Keystream {
 // How many bytes the block at byte `from` still has for a stretch of `left` bytes.
 pub fn span(from: usize, left: usize) -> usize
     requires { from < 16 }
-    ensures { result ≡ span_of from left }
+    ensures value { result ≡ span_of from left }
+    ensures span { Span from left result }
 {
-    if left < 16 - from {
-        return left;
-    }
-    16 - from
+    left.min(16 - from)
 }
 
 // What is left of the block that is held goes onto the first bytes of the buffer.
@@ -40,43 +38,29 @@ pub fn xor_held(buf: &mut [u8], s: Keystream) -> Keystream
     }
     let n = span(from, buf.len());
     let block = s.block;
-    xor_bytes(&mut buf[0..n], block, from);
-    Keystream {
-        block: block,
-        at: at + n,
-    }
+    xor_bytes(&mut buf[..n], block, from);
+    Keystream { block, at: at + n }
 }
 
 // The keystream onto the whole buffer, from where it stands: first the block that is held, then one block after the other. Who calls it shows that the stretch is
 // not LARGE; the keystream part tests it before.
-pub fn xor_stretch(
-    sbox: &[u8; 256],
-    table: &[u8; 2048],
-    keys: &[[[u8; 4]; 4]; 11],
-    start: Start,
-    buf: &mut [u8],
-    s: Keystream,
-) -> Keystream
-    requires lent { Lent sbox.now table.now keys.now start.key }
-    requires started { Started start }
+pub fn xor_stretch(blocks: &Blocks<'_>, buf: &mut [u8], s: Keystream) -> Keystream
     requires buf_value { is_large s.at (length buf.old) ≡ false }
-    requires holds { Holds start.key start.block s }
-    ensures at_value { (result.at ≡ s.at + length buf.old) × Holds start.key start.block result }
-    ensures buf_after { buf.new ≡ (stretch_by (byte_from start.key start.block) s.at buf.old).bytes }
+    requires holds { Holds blocks.now.cipher.key blocks.now.block s }
+    ensures at_value { (result.at ≡ s.at + length buf.old) × Holds blocks.now.cipher.key blocks.now.block result }
+    ensures buf_after { buf.new ≡ (stretch_by (byte_from blocks.now.cipher.key blocks.now.block) s.at buf.old).bytes }
 {
     let e = buf.len();
     let mut t = xor_held(buf, s);
     let mut i = t.at - s.at;
+    // `chunks_mut` would do without the count, but no proof knows a buffer's bytes after its chunks were written.
     while i < e {
         let at = t.at;
-        let block = block(sbox, table, keys, start, at / 16);
+        let block = block(blocks, at / 16);
         let n = span(0, e - i);
         let end = i + n;
         xor_part(&mut buf[i..end], block);
-        t = Keystream {
-            block: block,
-            at: at + n,
-        };
+        t = Keystream { block, at: at + n };
         i = end;
     }
     t

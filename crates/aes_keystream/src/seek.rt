@@ -1,11 +1,10 @@
 // The keystream moved on to any byte. "Block" here is a block of the cipher, sixteen bytes of keystream.
 ghost use Rattle.std.specs.Prelude.{◌≡◌, List, ℕ, ◌≤◌};
-ghost use Rattle.aes.specs.Blocks.{Lent, Started};
 ghost use Rattle.stretches.specs.Stretch.{keystream_end};
 ghost use Rattle.aes_keystream.specs.Steps.{Holds};
 
 use crate::keystream::{Keystream, span, xor_stretch};
-use aes::blocks::Start;
+use aes::blocks::Blocks;
 
 // Moves on within the block that is held, up to its end or to byte `to`.
 fn pass_held(s: Keystream, to: usize) -> Keystream
@@ -20,53 +19,32 @@ fn pass_held(s: Keystream, to: usize) -> Keystream
     }
     let n = span(from, to - at);
     let block = s.block;
-    Keystream {
-        block: block,
-        at: at + n,
-    }
+    Keystream { block, at: at + n }
 }
 
 // Moves on to byte `to`. Blocks between are made in their turn, by the one function that makes blocks, onto bytes that nobody reads.
-pub fn skip(
-    sbox: &[u8; 256],
-    table: &[u8; 2048],
-    keys: &[[[u8; 4]; 4]; 11],
-    start: Start,
-    s: Keystream,
-    to: usize,
-) -> Keystream
-    requires lent { Lent sbox.now table.now keys.now start.key }
-    requires started { Started start }
+pub fn skip(blocks: &Blocks<'_>, s: Keystream, to: usize) -> Keystream
     requires at_le_to { (s.at ≤ to) × (to ≤ keystream_end) }
-    requires holds { Holds start.key start.block s }
-    ensures { (result.at ≡ to) × Holds start.key start.block result }
+    requires holds { Holds blocks.now.cipher.key blocks.now.block s }
+    ensures { (result.at ≡ to) × Holds blocks.now.cipher.key blocks.now.block result }
 {
     let mut unread = [0u8; 16];
     let mut t = pass_held(s, to);
     while t.at < to {
         let n = span(0, to - t.at);
-        let u = xor_stretch(sbox, table, keys, start, &mut unread[0..n], t);
-        t = u;
+        t = xor_stretch(blocks, &mut unread[..n], t);
     }
     t
 }
 
 // Starts at byte `to`. No block is made but the one that `to` stands inside, if it stands inside one.
-pub fn seek(
-    sbox: &[u8; 256],
-    table: &[u8; 2048],
-    keys: &[[[u8; 4]; 4]; 11],
-    start: Start,
-    to: usize,
-) -> Keystream
-    requires lent { Lent sbox.now table.now keys.now start.key }
-    requires started { Started start }
+pub fn seek(blocks: &Blocks<'_>, to: usize) -> Keystream
     requires to_le_keystream_end { to ≤ keystream_end }
-    ensures { (result.at ≡ to) × Holds start.key start.block result }
+    ensures { (result.at ≡ to) × Holds blocks.now.cipher.key blocks.now.block result }
 {
     let s = Keystream {
         block: [0u8; 16],
         at: to - to % 16,
     };
-    skip(sbox, table, keys, start, s, to)
+    skip(blocks, s, to)
 }

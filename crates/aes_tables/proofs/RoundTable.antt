@@ -1,14 +1,13 @@
 -- The round table: its rule at each byte of each entry, from the rule of the S-box, and the columns that are read from an entry.
 use mathlib.Core.Path.{◌≡◌, ap, ap₂, ◌∙◌}
-use mathlib.Core.List.{List}
-use Prim.Native.Nat.{ℕ, ◌+◌, ◌*◌, ◌/◌, ◌%◌, ◌<◌}
+use mathlib.Core.List.{List, [], ◌∷◌}
+use Prim.Native.Nat.{ℕ, ◌+◌, ◌-◌, ◌*◌, ◌/◌, ◌%◌, ◌<◌}
 use native.Mathlib.Omega.{arith}
 use lib.Dec.{T, eqb}
 use lib.ListN.{length, get_or}
-use Rattle.bits.specs.Lists.{tabulate}
 use Rattle.bits.proofs.Table.{every, rule}
 use Rattle.aes_tables.specs.Cipher.{sbox_of}
-use Rattle.aes_tables.specs.Tables.{row0_of, row1_of, row2_of, row3_of, RoundTable}
+use Rattle.aes_tables.specs.Tables.{row0_of, row_of, RoundTable}
 use Rattle.aes_tables.proofs.Words.{cons4}
 use Rattle.aes_tables.proofs.Sbox.{sbox_list, sbox-rule}
 
@@ -33,14 +32,13 @@ module _ (t : List ℕ) (h : RoundTable t) (x : ℕ) (l : x < 256) where
   byte : (d j : ℕ) → d + j < 8 → get_or t (8 * x + d + j) 0 ≡ get_or (row0_of (sbox_of x)) ((d + j) % 4) 0
   byte d j b = let e : 8 * x + d + j ≡ 8 * x + (d + j) = omega arith in ap (λ (m : ℕ). get_or t m 0) e ∙ h.entry x (d + j) l b
 
-  pub read0 : tabulate 4 (λ i. get_or t (8 * x + i) 0) ≡ row0_of (sbox_of x)
-  read0 = cons4 (h.entry x 0 l (omega arith)) (h.entry x 1 l (omega arith)) (h.entry x 2 l (omega arith)) (h.entry x 3 l (omega arith))
-
-  pub read1 : tabulate 4 (λ i. get_or t (8 * x + 3 + i) 0) ≡ row1_of (sbox_of x)
-  read1 = cons4 (byte 3 0 (omega arith)) (byte 3 1 (omega arith)) (byte 3 2 (omega arith)) (byte 3 3 (omega arith))
-
-  pub read2 : tabulate 4 (λ i. get_or t (8 * x + 2 + i) 0) ≡ row2_of (sbox_of x)
-  read2 = cons4 (byte 2 0 (omega arith)) (byte 2 1 (omega arith)) (byte 2 2 (omega arith)) (byte 2 3 (omega arith))
-
-  pub read3 : tabulate 4 (λ i. get_or t (8 * x + 1 + i) 0) ≡ row3_of (sbox_of x)
-  read3 = cons4 (byte 1 0 (omega arith)) (byte 1 1 (omega arith)) (byte 1 2 (omega arith)) (byte 1 3 (omega arith))
+  -- four bytes of an entry, from where row r begins
+  pub read : (r : ℕ) → r < 4
+      → let a = 8 * x + (4 - r) % 4 in get_or t a 0 ∷ get_or t (a + 1) 0 ∷ get_or t (a + 2) 0 ∷ get_or t (a + 3) 0 ∷ [] ≡ row_of r (sbox_of x)
+  read r b =
+      let d = (4 - r) % 4 in
+      let at : (j : ℕ) → j < 4 → get_or t (8 * x + d + j) 0 ≡ get_or (row0_of (sbox_of x)) ((j + (4 - r)) % 4) 0 = λ j k.
+          let e : (d + j) % 4 ≡ (j + (4 - r)) % 4 = omega arith in
+          byte d j (omega arith) ∙ ap (λ (m : ℕ). get_or (row0_of (sbox_of x)) m 0) e in
+      let z : 8 * x + d ≡ 8 * x + d + 0 = omega arith in
+      cons4 (ap (λ (m : ℕ). get_or t m 0) z ∙ at 0 (omega arith)) (at 1 (omega arith)) (at 2 (omega arith)) (at 3 (omega arith))

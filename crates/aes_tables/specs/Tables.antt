@@ -1,6 +1,6 @@
 -- What the tables and the code's packed columns mean. Nothing here is FIPS 197's. Where a contract asks for a `SboxTable` or a `RoundTable`, the functions
 -- `sbox` and `round_table` give one.
-use Rattle.std.specs.Prelude.{◌≡◌, List, [], ◌∷◌, ℕ, ◌+◌, ◌*◌, ◌%◌, ◌<◌, get_or}
+use Rattle.std.specs.Prelude.{◌≡◌, List, [], ◌∷◌, ℕ, ◌+◌, ◌-◌, ◌*◌, ◌%◌, ◌<◌, get_or}
 use Rattle.bits.specs.BigEndian.{byte_of}
 use Rattle.bits.specs.Lists.{tabulate}
 use Rattle.aes_tables.specs.Field.{◌•◌}
@@ -26,6 +26,10 @@ row2_of s = s ∷ 3 • s ∷ 2 • s ∷ s ∷ []
 
 abbrev pub row3_of : ℕ → List ℕ
 row3_of s = s ∷ s ∷ 3 • s ∷ 2 • s ∷ []
+
+-- the same by the number of the row: the matrix is cyclic, so its columns are turns of one another
+abbrev pub row_of : ℕ → ℕ → List ℕ
+row_of r s = tabulate 4 (λ i. get_or (row0_of s) ((i + (4 - r)) % 4) 0)
 
 -- entry k, eight bytes, is row 0 for the S-box at k, twice over
 pub record RoundTable (t : List ℕ) : Type 0 where

@@ -1,4 +1,4 @@
-// The look-up tables. A constant array is copied at each use of its name, so a caller makes each table once and lends it.
+// The look-up tables, each with its rule. A constant array is copied at each use of its name, so a caller makes the tables once and lends them.
 ghost use Rattle.aes_tables.specs.Tables.{SboxTable, RoundTable};
 
 use crate::entries::ENTRIES;
@@ -22,14 +22,21 @@ const SBOX: [u8; 256] = *b"\
     \xe1\xf8\x98\x11\x69\xd9\x8e\x94\x9b\x1e\x87\xe9\xce\x55\x28\xdf\
     \x8c\xa1\x89\x0d\xbf\xe6\x42\x68\x41\x99\x2d\x0f\xb0\x54\xbb\x16";
 
-// The S-box, read by the last round and the key schedule.
+// The S-box, which the last round and the key schedule read, and the table of the other rounds; both lent.
+#[derive(Clone, Copy)]
+pub struct Tables<'a> {
+    pub sbox: &'a [u8; 256],
+    pub round: &'a [u8; 2048],
+    pub ghost sbox_rule: { SboxTable sbox.now },
+    pub ghost round_rule: { RoundTable round.now },
+}
+
 pub fn sbox() -> [u8; 256]
     ensures { SboxTable result }
 {
     SBOX
 }
 
-// The table of the other rounds.
 pub fn round_table() -> [u8; 2048]
     ensures { RoundTable result }
 {

@@ -1,5 +1,5 @@
 -- The refusals and their numbers: document 01, "Numbers given back", to which document 02 adds conditions, and the border's own.
-use Rattle.std.specs.Prelude.{◌≡◌, List, [], ◌∷◌, map, ℕ, ◌-◌, get_or}
+use Rattle.std.specs.Prelude.{◌≡◌, List, [], ◌∷◌, map, ℕ, ◌-◌, get_or, Result, Ok, Err}
 use Rattle.bits.specs.declared.refusal.Refusal.{Refusal}
 use Rattle.bits.specs.declared.refusal.Refusal.TheVariants.{Length, Short, Version, Header, Profile, Element, Large, Room, Stream, Order, Worn, Old, Repeat, Tag, Keys, Policy, Twice, Full, Absent}
 use Rattle.bits.specs.declared.refusal.Border.{Border}
@@ -27,6 +27,11 @@ number_of Policy = 16
 number_of Twice = 17
 number_of Full = 18
 number_of Absent = 19
+
+-- the number that a call gives back: 0 where nothing is refused
+abbrev pub outcome_of : {A : Type 0} → Result A Refusal → ℕ
+outcome_of (Ok a) = 0
+outcome_of (Err r) = number_of r
 
 -- the table of document 01, row by row
 abbrev pub refusals : List Refusal

@@ -1,6 +1,7 @@
 // AES-GCM.
 ghost use Rattle.std.specs.Prelude.{◌≡◌, length};
 
+use bits::portion::Portion;
 use gcm::gctr::crypt;
 use gcm::subkey::subkey;
 use gcm::tag::tag_parts;
@@ -19,7 +20,12 @@ pub fn sealed(rt: &impl Print, key: &[u8], iv: &[u8], from: u64, buf: &mut [u8])
     }
     let key = padded(key);
     let iv = padded(iv);
-    crypt(key, iv, buf, from, from, from);
+    let portion = Portion {
+        first: from,
+        stop: from,
+        rest: from,
+    };
+    crypt(key, iv, buf, portion);
     let (data, text) = buf.split_at(from);
     let tag = tag_parts(key, subkey(key), iv, data, text);
     println!(rt; "{}{}", Hex(buf), Hex(&tag))

@@ -1,4 +1,5 @@
 -- Masking a block in place, an element at a time.
+use Rattle.std.specs.Prelude.{IsOk, Option, Some, None, Result, Ok, Err}
 use mathlib.Core.Path.{◌≡◌, refl, sym, ap, ap₂, ◌∙◌, fun_ext}
 use mathlib.Core.Bool.{Bool, true, false, not, true≢false}
 use mathlib.Core.List.{List, ◌++◌, append_assoc}
@@ -12,14 +13,13 @@ use Rattle.bits.specs.Xor.{xor_pad}
 use Rattle.bits.proofs.Xor.{length-pad, pad-ext, pad-none}
 use Rattle.stretches.specs.Stretch.{keystream_end, stretch_pad}
 use Rattle.stretches.proofs.Stretches.{stretch-part}
+use Rattle.bits.specs.declared.refusal.Refusal.{Refusal}
 use Rattle.rtp_elements.specs.declared.element.Element.{Element}
-use Rattle.rtp_elements.specs.declared.element.Found.{Found}
-use Rattle.rtp_elements.specs.declared.element.Found.TheVariants.{At, Absent, Past}
 use Rattle.rtp_elements.specs.Elements.{NextByte, two_byte, start_of, within, whole_from, whole_of}
 use Rattle.rtp_elements.specs.Mask.{mask_of, masked_pad, masked_of}
 use Rattle.rtp_elements.specs.Next.{next_of}
 use Rattle.rtp_elements.proofs.Walks.{masked_from, masked-all, masked-is}
-use Rattle.rtp_elements.proofs.Stepping.{to_mask, Stepped, Over, next-absent, next_past, next-over}
+use Rattle.rtp_elements.proofs.Stepping.{to_mask, Stepped, Over, next-absent, next_past}
 
 module _ (listed : ℕ → Bool) (tag : ℕ) (pad : ℕ → ℕ) where
   -- place i is reached: what is still to do, applied to the present block, is the goal
@@ -40,15 +40,16 @@ module _ (listed : ℕ → Bool) (tag : ℕ) (pad : ℕ → ℕ) where
   ended : (block₀ block : List ℕ) (i : ℕ) → Masking block₀ block i → Over tag block i → block ≡ masked_of listed tag pad block₀
   ended block₀ block i m o = sym (o.masked listed pad) ∙ m.left ∙ to-mask-all block₀
 
-  pub masking-end : (block₀ block : List ℕ) (i : ℕ) → Masking block₀ block i → length block ≤ i → block ≡ masked_of listed tag pad block₀
-  masking-end block₀ block i m l = ended block₀ block i m (next-absent tag block i (sym (next-over tag block i l)))
+  pub masking-end : (block₀ block : List ℕ) (i : ℕ) → Masking block₀ block i → next_of tag block i ≡ Ok None → block ≡ masked_of listed tag pad block₀
+  masking-end block₀ block i m q = ended block₀ block i m (next-absent tag block i q)
 
-  -- the walk's end: an element that runs past is excluded
-  pub masking-stop : (block₀ block : List ℕ) (i : ℕ) (f : Found) → Masking block₀ block i → f ≡ next_of tag block i → ((e : Element) → f ≡ At e → ⊥)
-      → block ≡ masked_of listed tag pad block₀
-  masking-stop block₀ block i (At e) m q o = absurd (o e refl)
-  masking-stop block₀ block i Absent m q o = ended block₀ block i m (next-absent tag block i (sym q))
-  masking-stop block₀ block i Past m q o = absurd (true≢false (sym m.whole ∙ next_past tag block i (sym q)))
+  -- the next step is no refusal
+  pub masking-ok : (block₀ block : List ℕ) (i : ℕ) → Masking block₀ block i → IsOk (next_of tag block i)
+  masking-ok block₀ block i m = go (next_of tag block i) refl
+    where
+      go : (f : Result (Option Element) Refusal) → next_of tag block i ≡ f → IsOk f
+      go (Ok a) q = refl
+      go (Err r) q = absurd (true≢false (sym m.whole ∙ next_past tag block i r q))
 
   module _ (block₀ block : List ℕ) (i : ℕ) (e : Element) (m : Masking block₀ block i) (s : Stepped tag block i e) where
     whole-on : whole_from (two_byte tag) (start_of tag) (drop (e.begin + e.length) block) ≡ true

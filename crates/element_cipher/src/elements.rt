@@ -14,7 +14,7 @@ use aes::blocks::{Start, round_keys};
 use aes_counter::start::packet_start;
 use aes_keystream::keystream::{Keystream, xor_held, xor_stretch};
 use aes_keystream::seek::skip;
-use rtp_elements::element::{Found, next};
+use rtp_elements::element::next;
 
 // The data of one element: byte k of the block with byte k of the keystream, k from `begin` up to `end`, a stretch that starts there. Most elements lie in the
 // cipher's block that is held.
@@ -64,10 +64,7 @@ fn crypt_by(
         at: 0,
     };
     let mut i: usize = 0;
-    while i < block.len() {
-        let Found::At(element) = next(block, tag, i) else {
-            return;
-        };
+    while let Some(element) = next(block, tag, i).unwrap() {
         let begin = element.begin;
         let end = begin + element.length;
         if is_listed(listed, element.id) {

@@ -13,7 +13,6 @@ use rtp_header::header::{Layout, header_number};
 use session::answer::Answer;
 use session::layout::SIZE;
 use session::load::{load_policy, load_suite};
-use suites::suite::tag_length;
 
 // The header reader's answer, which now also says whether the packet has room, a stream and an index; the place of the stream's record, and the index.
 // `number` is what the call gives back: 0, the refusal's, or the border's where the memory has another size.
@@ -93,7 +92,7 @@ pub fn open(session: &[u64], buf: &[u8], n: usize, way: Way) -> Opened
     }
     let first = session[0];
     let policy = load_policy(first);
-    let t = tag_length(load_suite(first));
+    let t = load_suite(first).tag_length();
     let header = judge(&buf[0..n], way, policy, t);
     let Ok(h) = header else {
         return not_read(header);

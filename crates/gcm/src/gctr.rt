@@ -7,34 +7,37 @@ ghost use Rattle.stretches.specs.Stretch.{keystream_end};
 ghost use Rattle.gcm.specs.Steps.{base_of, sealed_of};
 
 use crate::counter::{TEXT, start};
-use aes::blocks::round_keys;
+use aes::blocks::{Cipher, round_keys};
 use aes_cm::portion::xor_from;
-use aes_tables::tables;
+use aes_tables::tables::{self, Tables};
+use bits::portion::Portion;
 
 // The keystream of the counter blocks, from any byte `from` of it on. The cipher's tables lie in this function's own frame, and are gone when it returns.
-pub fn crypt_from(
-    key: [u8; 16],
-    iv: [u8; 12],
-    from: usize,
-    buf: &mut [u8],
-    first: usize,
-    stop: usize,
-    rest: usize,
-)
-    requires { (first ≤ stop) × ((stop ≤ rest) × ((rest ≤ length buf.old) × (from + length buf.old ≤ keystream_end))) }
-    ensures { buf.new ≡ xor_pad (portion_pad first stop rest (λ k. byte_from key (base_of iv) (from + k))) buf.old }
+pub fn crypt_from(key: [u8; 16], iv: [u8; 12], from: usize, buf: &mut [u8], portion: Portion)
+    requires { (portion.rest ≤ length buf.old) × (from + length buf.old ≤ keystream_end) }
+    ensures { buf.new ≡ xor_pad (portion_pad portion.first portion.stop portion.rest (λ k. byte_from key (base_of iv) (from + k))) buf.old }
 {
     let sbox = tables::sbox();
-    let table = tables::round_table();
-    let keys = round_keys(&sbox, key);
-    let begun = start(&sbox, &table, &keys, key, iv);
-    xor_from(&sbox, &table, &keys, begun, from, buf, first, stop, rest);
+    let round = tables::round_table();
+    let tables = Tables {
+        sbox: &sbox,
+        round: &round,
+    };
+    let keys = round_keys(tables, key);
+    let cipher = Cipher {
+        tables,
+        keys: &keys,
+        key,
+    };
+    let blocks = start(cipher, iv);
+    xor_from(&blocks, from, buf, portion);
 }
 
 // The text of the portion encrypted or decrypted: from the counter 2 on.
-pub fn crypt(key: [u8; 16], iv: [u8; 12], buf: &mut [u8], first: usize, stop: usize, rest: usize)
-    requires { (first ≤ stop) × ((stop ≤ rest) × ((rest ≤ length buf.old) × (32 + length buf.old ≤ keystream_end))) }
-    ensures { buf.new ≡ sealed_of key iv first stop rest buf.old }
+pub fn crypt(key: [u8; 16], iv: [u8; 12], buf: &mut [u8], portion: Portion)
+    requires { (portion.rest ≤ length buf.old) × (32 + length buf.old ≤ keystream_end) }
+    ensures { buf.new ≡ sealed_of key iv portion.first portion.stop portion.rest buf.old }
 {
-    crypt_from(key, iv, TEXT, buf, first, stop, rest);
+    prove!(portion.stop <= portion.rest);
+    crypt_from(key, iv, TEXT, buf, portion);
 }

@@ -7,6 +7,7 @@ ghost use Rattle.gcm.specs.Gcm.{j0_of, tag_by};
 
 use crate::counter::HASH;
 use crate::gctr::crypt_from;
+use bits::portion::Portion;
 use gcm_hash::hash::{hash, hash_parts};
 
 // The hash S, hidden by the block of J_0, which is block number 1.
@@ -14,7 +15,12 @@ fn hidden(key: [u8; 16], iv: [u8; 12], hash: [u8; 16]) -> [u8; 16]
     ensures { result ≡ gctr_of key (j0_of iv) hash }
 {
     let mut s = hash;
-    crypt_from(key, iv, HASH, &mut s, 0, 0, 0);
+    let all = Portion {
+        first: 0,
+        stop: 0,
+        rest: 0,
+    };
+    crypt_from(key, iv, HASH, &mut s, all);
     s
 }
 
@@ -27,17 +33,9 @@ pub fn tag_parts(key: [u8; 16], subkey: [u8; 16], iv: [u8; 12], a: &[u8], c: &[u
 }
 
 // The tag of a buffer by its encrypted portion.
-pub fn tag(
-    key: [u8; 16],
-    subkey: [u8; 16],
-    iv: [u8; 12],
-    buf: &[u8],
-    first: usize,
-    stop: usize,
-    rest: usize,
-) -> [u8; 16]
-    requires { (first ≤ stop) × ((stop ≤ rest) × ((rest ≤ length buf.now) × (32 + length buf.now ≤ keystream_end))) }
-    ensures { result ≡ tag_by key subkey iv (outside_of first stop rest buf.now) (inside_of first stop rest buf.now) }
+pub fn tag(key: [u8; 16], subkey: [u8; 16], iv: [u8; 12], buf: &[u8], portion: Portion) -> [u8; 16]
+    requires { (portion.rest ≤ length buf.now) × (32 + length buf.now ≤ keystream_end) }
+    ensures { result ≡ tag_by key subkey iv (outside_of portion.first portion.stop portion.rest buf.now) (inside_of portion.first portion.stop portion.rest buf.now) }
 {
-    hidden(key, iv, hash(subkey, buf, first, stop, rest))
+    hidden(key, iv, hash(subkey, buf, portion))
 }

@@ -4,6 +4,7 @@ ghost use Rattle.gcm_iv.specs.Srtp.{iv_of};
 
 use bits::big_endian::{write32, write64};
 
+// (Written out byte by byte, as the section's figure has it: loops over the SSRC's four and the index's six bytes would each name their place in the salt, and be no shorter.)
 pub fn iv(salt: [u8; 12], ssrc: u32, index: u64) -> [u8; 12]
     ensures { result ≡ iv_of salt ssrc index }
 {

@@ -1,28 +1,37 @@
 // The look-up table of a hash subkey. A caller makes it once and lends it.
+ghost use Rattle.std.specs.Prelude.{◌≡◌};
 ghost use Rattle.gf128.specs.Steps.{value_of};
 ghost use Rattle.gf128_product.specs.Steps.{Multiples, KeyTable};
 
 use crate::moves::moved;
-use gf128::block::{Block, next, xor};
+use gf128::block::Block;
+
+// A hash subkey and its multiples, and those of the subkey moved by 4, 8 and so on up to 28 bits. (A product reads the lists alone: the subkey is there to say whose they are.)
+#[derive(Drop)]
+pub struct Table {
+    pub subkey: Block,
+    pub lists: [[u64; 32]; 8],
+    pub ghost right: { KeyTable (value_of subkey) lists },
+}
 
 // The sixteen multiples of v: their high halves, then their low ones.
 fn multiples(v: Block) -> [u64; 32]
     ensures { Multiples (value_of v) result }
 {
-    let m4 = next(v);
-    let m2 = next(m4);
-    let m1 = next(m2);
-    let m3 = xor(m2, m1);
-    let m5 = xor(m4, m1);
-    let m6 = xor(m4, m2);
-    let m7 = xor(m4, m3);
-    let m9 = xor(v, m1);
-    let m10 = xor(v, m2);
-    let m11 = xor(v, m3);
-    let m12 = xor(v, m4);
-    let m13 = xor(v, m5);
-    let m14 = xor(v, m6);
-    let m15 = xor(v, m7);
+    let m4 = v.next();
+    let m2 = m4.next();
+    let m1 = m2.next();
+    let m3 = m2.xor(m1);
+    let m5 = m4.xor(m1);
+    let m6 = m4.xor(m2);
+    let m7 = m4.xor(m3);
+    let m9 = v.xor(m1);
+    let m10 = v.xor(m2);
+    let m11 = v.xor(m3);
+    let m12 = v.xor(m4);
+    let m13 = v.xor(m5);
+    let m14 = v.xor(m6);
+    let m15 = v.xor(m7);
     [
         0, m1.high, m2.high, m3.high, m4.high, m5.high, m6.high, m7.high, v.high, m9.high,
         m10.high, m11.high, m12.high, m13.high, m14.high, m15.high, 0, m1.low, m2.low, m3.low,
@@ -31,25 +40,29 @@ fn multiples(v: Block) -> [u64; 32]
     ]
 }
 
-// The table of a hash subkey: its multiples, and those of the subkey moved by 4, 8 and so on up to 28 bits.
-pub fn key_table(h: Block) -> [[u64; 32]; 8]
-    ensures { KeyTable (value_of h) result }
-{
-    let h1 = moved(h, 4);
-    let h2 = moved(h1, 4);
-    let h3 = moved(h2, 4);
-    let h4 = moved(h3, 4);
-    let h5 = moved(h4, 4);
-    let h6 = moved(h5, 4);
-    let h7 = moved(h6, 4);
-    [
-        multiples(h),
-        multiples(h1),
-        multiples(h2),
-        multiples(h3),
-        multiples(h4),
-        multiples(h5),
-        multiples(h6),
-        multiples(h7),
-    ]
+impl Table {
+    pub fn of(subkey: Block) -> Table
+        ensures { result.subkey ≡ subkey }
+    {
+        let h1 = moved(subkey, 4);
+        let h2 = moved(h1, 4);
+        let h3 = moved(h2, 4);
+        let h4 = moved(h3, 4);
+        let h5 = moved(h4, 4);
+        let h6 = moved(h5, 4);
+        let h7 = moved(h6, 4);
+        Table {
+            subkey,
+            lists: [
+                multiples(subkey),
+                multiples(h1),
+                multiples(h2),
+                multiples(h3),
+                multiples(h4),
+                multiples(h5),
+                multiples(h6),
+                multiples(h7),
+            ],
+        }
+    }
 }

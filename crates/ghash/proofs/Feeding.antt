@@ -8,9 +8,10 @@ use native.Mathlib.Omega.{arith}
 use borrow.Author.Tests.{ne_eqb}
 use lib.Bits.{bit_xor, xor_shifted, xor_zero_r}
 use lib.Dec.{T, eqb, lit<}
-use lib.ListN.{length, take, drop, replicate, length-append, length-replicate, length-drop, take-append-drop, drop_of_length-le}
+use lib.ListN.{length, get_or, take, drop, replicate, length-append, length-replicate, length-drop, take-append-drop, drop_of_length-le}
 use lib.Pow.{are_bytes}
 use lib.Seq.{drop-drop, take-add, take_all, length-take-le}
+use Rattle.std.specs.Simd.{first_chunks}
 use Rattle.bits.specs.BigEndian.{from_bytes, to_bytes}
 use Rattle.bits.specs.Pick.{pick}
 use Rattle.bits.specs.Xor.{◌⊕◌}
@@ -18,7 +19,7 @@ use Rattle.bits.proofs.BigEndian.{from-append, from-to, from-lt, to-are-bytes}
 use Rattle.bits.proofs.Bytes.{first_byte, other-bytes, cons-bytes}
 use Rattle.bits.proofs.Xor.{xor_assoc}
 use Rattle.gf128.specs.declared.block.Block.{Block}
-use Rattle.ghash.specs.declared.hash.Hash.{Hash}
+use Rattle.ghash.specs.declared.state.Hash.{Hash}
 use Rattle.gf128.specs.Product.{◌•◌}
 use Rattle.ghash.specs.Ghash.{block_of, value_after, ghash_of, zeros_of, padded_of, lengths_of}
 use Rattle.gf128.specs.Steps.{value_of}
@@ -102,18 +103,37 @@ block-next h at i v u l b t z e =
     ∙ sym (feed-append h v (at + i) (take 16 d) (drop 16 d))
     ∙ ap (feed_of h v (at + i)) (take-append-drop 16 d)
 
+-- block i of those that a part is cut into
+pub chunk-at : (k i : ℕ) (l : List ℕ) → i < k → get_or (first_chunks 16 k l) i [] ≡ take 16 (drop (16 * i) l)
+chunk-at zero i l h = absurd (omega arith)
+chunk-at (suc k) zero l h = refl
+chunk-at (suc k) (suc i) l h =
+    let e : 16 + 16 * i ≡ 16 * suc i = omega arith in
+    chunk-at k i (drop 16 l) (omega arith) ∙ ap (take 16) (drop-drop (16 * i) 16 l ∙ ap (λ (n : ℕ). drop n l) e)
+
 pub feed-end : (h at i v : ℕ) (l : List ℕ) → length l ≤ i → feed_of h v (at + i) (drop i l) ≡ v
 unfolding feed_of
 feed-end h at i v l b = ap (feed_of h v (at + i)) (drop_of_length-le l b)
 
 -- ---- what a hash has had
 
-pub fed-more : (h : ℕ) (l part : List ℕ) (s r : Hash) → Fed h l s → T (are_bytes part) → r.at ≡ s.at + length part
-    → value_of r.value ≡ feed_of h (value_of s.value) s.at part → Fed h (l ++ part) r
+-- where a byte comes counts only within a block
+feed-mod : (h y p q : ℕ) (l : List ℕ) → p % 16 ≡ q % 16 → feed_of h y p l ≡ feed_of h y q l
+unfolding feed_of add_of
+feed-mod h y p q [] e = refl
+feed-mod h y p q (b ∷ l) e =
+    let s : suc p % 16 ≡ suc q % 16 = omega arith in
+    ap (λ (k : ℕ). feed_of h (pick (eqb k 15) ((y ⊕ (b * 2 ^ (8 * (15 - k)))) • h) (y ⊕ (b * 2 ^ (8 * (15 - k))))) (suc p) l) e
+    ∙ feed-mod h (add_of h y q b) (suc p) (suc q) l s
+
+pub fed-more : (h : ℕ) (l part : List ℕ) (s r : Hash) → Fed h l s → T (are_bytes part) → r.begun ≡ (s.begun + length part) % 16
+    → value_of r.value ≡ feed_of h (value_of s.value) s.begun part → Fed h (l ++ part) r
 fed-more h l part s r f t n e =
+    let c : length (l ++ part) ≡ length l + length part = length-append l part in
+    let q : s.begun % 16 ≡ (0 + length l) % 16 = omega (arith, f.begun) in
     record {
-      value = e ∙ ap₂ (λ (y k : ℕ). feed_of h y k part) f.value (f.at ∙ sym (zero-add (length l))) ∙ sym (feed-append h 0 0 l part);
-      at = n ∙ ap (λ (k : ℕ). k + length part) f.at ∙ sym (length-append l part);
+      value = e ∙ ap (λ (y : ℕ). feed_of h y s.begun part) f.value ∙ feed-mod h (feed_of h 0 0 l) s.begun (0 + length l) part q ∙ sym (feed-append h 0 0 l part);
+      begun = omega (arith, n, f.begun, c);
       bytes = append-bytes l part f.bytes t;
     }
 
@@ -129,32 +149,34 @@ three-parts l n m h k =
     ∙ ap (λ (r : List ℕ). take n l ++ r) (take-append-drop (m - n) (drop n l))
     ∙ take-append-drop n l
 
-pub fed-parts : (h y p : ℕ) (a b c l : List ℕ) (u v w i j : ℕ) → a ++ (b ++ c) ≡ l → i ≡ p + length a → j ≡ i + length b
+pub fed-parts : (h y p : ℕ) (a b c l : List ℕ) (u v w i j : ℕ) → a ++ (b ++ c) ≡ l → i % 16 ≡ (p + length a) % 16 → j % 16 ≡ (i + length b) % 16
     → u ≡ feed_of h y p a → v ≡ feed_of h u i b → w ≡ feed_of h v j c → w ≡ feed_of h y p l
 fed-parts h y p a b c l u v w i j e ei ej eu ev ew =
     ew
-    ∙ ap₂ (λ (x k : ℕ). feed_of h x k c) ev ej
+    ∙ feed-mod h v j (i + length b) c ej
+    ∙ ap (λ (x : ℕ). feed_of h x (i + length b) c) ev
     ∙ sym (feed-append h u i b c)
-    ∙ ap₂ (λ (x k : ℕ). feed_of h x k (b ++ c)) eu ei
+    ∙ feed-mod h u i (p + length a) (b ++ c) ei
+    ∙ ap (λ (x : ℕ). feed_of h x (p + length a) (b ++ c)) eu
     ∙ sym (feed-append h y p a (b ++ c))
     ∙ ap (feed_of h y p) e
 
 -- padding: no zeros, or those that the block lacks
-pub no-zeros : (h : ℕ) (l : List ℕ) (s : Hash) → s.at % 16 ≡ 0 → Fed h l s → Fed h (padded_of l) s
+pub no-zeros : (h : ℕ) (l : List ℕ) (s : Hash) → s.begun ≡ 0 → Fed h l s → Fed h (padded_of l) s
 no-zeros h l s z f =
-    let e : zeros_of (length l) ≡ 0 = omega (arith, f.at) in
+    let e : zeros_of (length l) ≡ 0 = omega (arith, z, f.begun) in
     subst (λ (k : List ℕ). Fed h k s) (sym (ap (λ (n : ℕ). l ++ replicate n 0) e ∙ append-nil l)) f
 
-pub with-zeros : (h : ℕ) (l : List ℕ) (s r : Hash) → (s.at % 16 ≡ 0 → ⊥) → r.at ≡ s.at + (16 - s.at % 16) → value_of r.value ≡ value_of s.value • h
+pub with-zeros : (h : ℕ) (l : List ℕ) (s r : Hash) → (s.begun ≡ 0 → ⊥) → r.begun ≡ 0 → value_of r.value ≡ value_of s.value • h
     → Fed h l s → Fed h (padded_of l) r
 with-zeros h l s r z n e f =
-    let m = 15 - s.at % 16 in
-    let k : zeros_of (length l) ≡ suc m = omega (arith, f.at) in
+    let m = 15 - s.begun in
+    let k : zeros_of (length l) ≡ suc m = omega (arith, f.begun) in
     let zeros : List ℕ = replicate (suc m) 0 in
     let c : length zeros ≡ suc m = length-replicate (suc m) 0 in
     subst (λ (j : ℕ). Fed h (l ++ replicate j 0) r) (sym k)
-    (fed-more h l zeros s r f (zero-bytes (suc m)) (omega arith)
-    (e ∙ sym (feed-zeros h (value_of s.value) s.at m (omega arith))))
+    (fed-more h l zeros s r f (zero-bytes (suc m)) (omega (arith, n, c, f.begun))
+    (e ∙ sym (feed-zeros h (value_of s.value) s.begun m (omega (arith, f.begun)))))
 
 -- GHASH of what a hash has had, where that is whole blocks
 feed-values : (h : ℕ) (l : List ℕ) (m : ℕ) → T (are_bytes l) → 16 * m ≤ length l → feed_of h 0 0 (take (16 * m) l) ≡ value_after h l m
@@ -193,9 +215,11 @@ pub finished : (h : ℕ) (l : List ℕ) (s : Hash) (u : Block) (a c : ℕ) → a
 finished h l s u a c ha hc f z e =
     let last = lengths_of a c in
     let t : T (are_bytes last) = append-bytes (to_bytes 8 (8 * a)) (to_bytes 8 (8 * c)) (to-are-bytes 8 (8 * a)) (to-are-bytes 8 (8 * c)) in
-    let n : s.at % 16 ≡ 0 = omega (arith, f.at) in
+    let n : s.begun ≡ 0 = omega (arith, f.begun) in
+    let size : length last ≡ 16 = refl in
+    let r : Hash = record { value = u; begun = 0; in_block = lit< tt } in
     let m : length (l ++ last) % 16 ≡ 0 = rw length-append (omega arith) in
-    fed-ghash h (l ++ last) (record { value = u; at = s.at + 16 })
-    (fed-more h l last s (record { value = u; at = s.at + 16 }) f t refl
-    (e ∙ ap (λ (x : ℕ). (value_of s.value ⊕ x) • h) (sym (lengths-value a c ha hc)) ∙ sym (feed-whole h (value_of s.value) s.at last t n refl)))
+    fed-ghash h (l ++ last) r
+    (fed-more h l last s r f t (omega (arith, n, size))
+    (e ∙ ap (λ (x : ℕ). (value_of s.value ⊕ x) • h) (sym (lengths-value a c ha hc)) ∙ sym (feed-whole h (value_of s.value) s.begun last t (omega (arith, n)) refl)))
     m

@@ -5,22 +5,14 @@ ghost use Rattle.gf128.specs.Steps.{value_of};
 
 use gf128::block::Block;
 
-fn wide(x: u8) -> u64
-    ensures { (result ≡ x) × (result ≤ 255) }
-{
-    x as u64
-}
-
 // The number that up to eight bytes are.
 fn number(part: &[u8]) -> u64
     requires { length part.now ≤ 8 }
     ensures { result ≡ from_bytes part.now }
 {
     let mut x: u64 = 0;
-    let mut i: usize = 0;
-    while i < part.len() {
-        x = x * 256 + wide(part[i]);
-        i += 1;
+    for b in part {
+        x = x * 256 + u64::from(*b);
     }
     x
 }

@@ -4,3 +4,4 @@
 
 pub mod few;
 pub mod hash;
+pub mod state;

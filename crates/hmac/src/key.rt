@@ -7,6 +7,11 @@ ghost use Rattle.hmac.specs.Steps.{state_of, states_of, key_states_of};
 use sha1_digest::digest::{sha1, start};
 use sha1_message::message::blocks;
 
+// What each byte of the inner and of the outer key block is XORed with.
+const IPAD: u8 = 0x36;
+
+const OPAD: u8 = 0x5c;
+
 #[derive(Clone, Copy)]
 pub struct KeyStates {
     pub inner: [u32; 5],
@@ -19,10 +24,8 @@ fn key_block(key: &[u8], x: u8) -> [u8; 64]
     ensures { result ≡ xor_pad (λ i. x) (filled_of key.now) }
 {
     let mut b = [x; 64];
-    let mut i: usize = 0;
-    while i < key.len() {
-        b[i] = key[i] ^ x;
-        i += 1;
+    for (i, k) in key.iter().enumerate() {
+        b[i] = *k ^ x;
     }
     b
 }
@@ -31,17 +34,16 @@ fn key_state(key: &[u8], x: u8) -> [u32; 5]
     requires { length key.now ≤ 64 }
     ensures { result ≡ state_of x (filled_of key.now) }
 {
-    let b = key_block(key, x);
-    blocks(start(), &b, 1)
+    blocks(start(), &key_block(key, x), 1)
 }
 
 fn short_key_states(key: &[u8]) -> KeyStates
     requires { length key.now ≤ 64 }
     ensures { result ≡ states_of (filled_of key.now) }
 {
-    let i = key_state(key, 0x36);
-    let o = key_state(key, 0x5c);
-    KeyStates { inner: i, outer: o }
+    let inner = key_state(key, IPAD);
+    let outer = key_state(key, OPAD);
+    KeyStates { inner, outer }
 }
 
 // The states of a key. A key of more than 64 bytes is hashed first.

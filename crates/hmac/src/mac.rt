@@ -10,7 +10,8 @@ use sha1_compress::compress::compress;
 use sha1_digest::digest::digest;
 use sha1_message::message::finish;
 
-// The last block of the outer hash: the inner hash value, padded after the key's block, is 84 bytes or 672 bits.
+// The last block of the outer hash: the inner hash value, padded after the key's block, is 84 bytes or 672 bits. (As words, written out: by way of `finish` the digest
+// would be made as bytes and read as words again.)
 fn last_block(h: [u32; 5]) -> [u32; 16]
     ensures { result ≡ words_in 16 (digest_of h ++ padding_of 84) }
 {
@@ -19,16 +20,14 @@ fn last_block(h: [u32; 5]) -> [u32; 16]
     ]
 }
 
-// The code of `message` and then `tail` under a key whose states these are: the blocks of the message and one more.
+// The code of `message` and then `tail` under a key whose states these are: the blocks of the message and one more. (The two parts are two parameters: a struct of them
+// would be made for one call and taken apart in it.)
 pub fn mac(states: KeyStates, message: &[u8], tail: &[u8]) -> [u8; 20]
     requires { (length tail.now ≤ 56) × (length message.now < 2 ^ 59) }
     ensures { result ≡ mac_of states (message.now ++ tail.now) }
 {
-    let i = states.inner;
-    let o = states.outer;
-    let h = finish(i, 64, message, tail);
-    let w = last_block(h);
-    let e = compress(o, w);
+    let h = finish(states.inner, 64, message, tail);
+    let e = compress(states.outer, last_block(h));
     digest(e)
 }
 

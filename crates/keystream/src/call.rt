@@ -4,8 +4,8 @@ ghost use Rattle.std.specs.Prelude.{◌≡◌};
 ghost use Rattle.keystream.specs.Call.{stretch_call};
 
 use crate::stretch::stretch;
-use bits::arrays::{array14, array16};
-use bits::refusal::SIZES;
+use bits::arrays::array;
+use bits::refusal::Border;
 
 // 0, and the keystream from byte `start` on over the whole buffer; or the number of a refusal, and the buffer as it was.
 pub fn stretch_call(
@@ -18,11 +18,12 @@ pub fn stretch_call(
 ) -> u32
     ensures { (result ≡ (stretch_call key.now salt.now ssrc index start buf.old).number) × (buf.new ≡ (stretch_call key.now salt.now ssrc index start buf.old).bytes) }
 {
-    if key.len() != 16 {
-        return SIZES;
+    let wrong = key.len() != 16 || salt.len() != 14;
+    if wrong {
+        return u32::from(Border::Sizes);
     }
-    if salt.len() != 14 {
-        return SIZES;
+    match stretch(array(key), array(salt), ssrc, index, start, buf) {
+        Ok(()) => 0,
+        Err(refusal) => u32::from(refusal),
     }
-    stretch(array16(key), array14(salt), ssrc, index, start, buf) as u32
 }

@@ -1,14 +1,15 @@
 // The keystream part: a stretch of the keystream of a key, a salt, an SSRC and an index, from any byte on.
 ghost use Rattle.std.specs.Prelude.{◌≡◌, false, length};
+ghost use Rattle.bits.specs.Refusals.{outcome_of};
 ghost use Rattle.stretches.specs.Stretch.{is_large};
 ghost use Rattle.keystream.specs.Stretch.{stretch_of};
 
-use aes::blocks::round_keys;
+use aes::blocks::{Cipher, round_keys};
 use aes_counter::start::packet_start;
 use aes_keystream::keystream::xor_stretch;
 use aes_keystream::seek::seek;
-use aes_tables::tables;
-use bits::refusal::{Refusal, number};
+use aes_tables::tables::{self, Tables};
+use bits::refusal::Refusal;
 
 // The bytes of keystream that RFC 3711 allows one packet index.
 const END: u64 = 1048576;
@@ -17,10 +18,8 @@ const END: u64 = 1048576;
 fn is_large(start: u64, n: usize) -> bool
     ensures { result ≡ is_large start n }
 {
-    if END < start {
-        return true;
-    }
-    END - start < (n as u64)
+    let past = END < start;
+    past || END - start < (n as u64)
 }
 
 // A stretch that is not LARGE.
@@ -36,14 +35,23 @@ fn stretch_within(
     ensures { buf.new ≡ (stretch_of key salt ssrc index start buf.old).bytes }
 {
     let sbox = tables::sbox();
-    let table = tables::round_table();
-    let keys = round_keys(&sbox, key);
-    let first = packet_start(&sbox, &table, &keys, key, salt, ssrc, index);
-    let s = seek(&sbox, &table, &keys, first, start);
-    xor_stretch(&sbox, &table, &keys, first, buf, s);
+    let round = tables::round_table();
+    let tables = Tables {
+        sbox: &sbox,
+        round: &round,
+    };
+    let keys = round_keys(tables, key);
+    let cipher = Cipher {
+        tables,
+        keys: &keys,
+        key,
+    };
+    let blocks = packet_start(cipher, salt, ssrc, index);
+    let s = seek(&blocks, start);
+    xor_stretch(&blocks, buf, s);
 }
 
-// 0, and the keystream from byte `start` on over the whole buffer; or the number of LARGE, and the buffer as it was.
+// The keystream from byte `start` on over the whole buffer; or LARGE, and the buffer as it was.
 pub fn stretch(
     key: [u8; 16],
     salt: [u8; 14],
@@ -51,12 +59,12 @@ pub fn stretch(
     index: u64,
     start: u64,
     buf: &mut [u8],
-) -> u8
-    ensures { (result ≡ (stretch_of key salt ssrc index start buf.old).number) × (buf.new ≡ (stretch_of key salt ssrc index start buf.old).bytes) }
+) -> Result<(), Refusal>
+    ensures { (outcome_of result ≡ (stretch_of key salt ssrc index start buf.old).number) × (buf.new ≡ (stretch_of key salt ssrc index start buf.old).bytes) }
 {
     if is_large(start, buf.len()) {
-        return number(Refusal::Large);
+        return Err(Refusal::Large);
     }
     stretch_within(key, salt, ssrc, index, start as usize, buf);
-    0
+    Ok(())
 }

@@ -14,7 +14,7 @@ use session::answer::code;
 use session::layout::{FRONT, SIZE};
 use setup_words::keys::session_keys;
 use setup_words::words::front_words;
-use suites::suite::{Suite, last_policy, salt_length, suite_of};
+use suites::suite::Suite;
 
 // The refusal of a key and a salt of these lengths and of a policy, or 0.
 fn make_number(suite: Suite, key: usize, salt: usize, policy: u64) -> u32
@@ -23,10 +23,10 @@ fn make_number(suite: Suite, key: usize, salt: usize, policy: u64) -> u32
     if key != 16 {
         return code(Refusal::Keys);
     }
-    if salt != salt_length(suite) {
+    if salt != suite.salt_length() {
         return code(Refusal::Keys);
     }
-    if last_policy(suite) < policy {
+    if suite.last_policy() < policy {
         return code(Refusal::Policy);
     }
     0
@@ -53,7 +53,7 @@ pub fn make(
         return SUITE;
     }
     clear(session);
-    let own = suite_of(suite as u64);
+    let own = Suite::from(u64::from(suite));
     let number = make_number(own, key.len(), salt.len(), policy);
     if number != 0 {
         return number;

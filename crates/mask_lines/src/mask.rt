@@ -4,63 +4,41 @@ ghost use Rattle.std.specs.Prelude.{◌≡◌, ◌≤◌, length};
 use bits::refusal::{Refusal, number};
 use element_cipher::listed::is_listed;
 use making::ids::flags;
-use rtp_elements::element::{Found, next, whole};
+use rtp_elements::element::next;
 use text::reading::{bytes_at, hex_at};
 use text::words::count;
 use text_output::output::{put, put_decimal, put_hex};
 
-fn cover(part: &mut [u8]) {
-    let mut i: usize = 0;
-    while i < part.len() {
-        part[i] = 0xFF;
-        i += 1;
-    }
-}
-
-// The mask of a whole extension block, onto zeros: FF on the data of listed elements.
-fn cover_listed(block: &[u8], tag: u16, set: &[u64; 4], mask: &mut [u8])
+// The mask of an extension block, onto zeros: FF on the data of listed elements. A refusal's mask is not shown.
+fn cover_listed(
+    block: &[u8],
+    tag: u16,
+    set: [u64; 4],
+    mask: &mut [u8],
+) -> Result<(), Refusal>
     requires { length mask.old ≡ length block.now }
+    ensures { length mask.new ≡ length mask.old }
 {
     let mut i: usize = 0;
-    while i < block.len() {
-        let Found::At(element) = next(block, tag, i) else {
-            return;
-        };
+    while let Some(element) = next(block, tag, i)? {
         let begin = element.begin;
         let end = begin + element.length;
-        if is_listed(set, element.id) {
-            cover(&mut mask[begin..end]);
+        if is_listed(&set, element.id) {
+            mask[begin..end].fill(0xFF);
         }
         i = end;
     }
-}
-
-// The mask, onto zeros, and 0; or the number of the refusal.
-fn mask_of(block: &[u8], tag: u16, set: [u64; 4], mask: &mut [u8]) -> u8
-    requires { length mask.old ≡ length block.now }
-{
-    if !whole(block, tag) {
-        return number(Refusal::Element);
-    }
-    cover_listed(block, tag, &set, mask);
-    0
-}
-
-fn shown(number: u8, length: usize) -> usize
-    ensures { result ≤ length }
-{
-    if number == 0 {
-        return length;
-    }
-    0
+    Ok(())
 }
 
 // NO MASK
 fn put_mask(block: &[u8], tag: u16, ids: &[u8], mask: &mut [u8], out: &mut [u8]) -> usize
     requires { length mask.old ≡ length block.now }
 {
-    let number = mask_of(block, tag, flags(ids), mask);
-    let n = shown(number, mask.len());
+    let (number, n) = match cover_listed(block, tag, flags(ids), mask) {
+        Ok(()) => (0, mask.len()),
+        Err(refusal) => (number(refusal), 0),
+    };
     let mut at = put_decimal(out, 0, number as u64);
     at = put(out, at, b' ');
     put_hex(out, at, &mask[0..n])

@@ -6,12 +6,10 @@ ghost use Rattle.rtp_elements.specs.Mask.{listed_in};
 ghost use Rattle.packet_cipher.specs.Cipher.{portion_of, cipher_of};
 ghost use Rattle.policies.specs.Judging.{elements_fit};
 
-use crate::keys::Keys;
+use crate::context::Context;
 use aes_cm::portion::xor_portion;
 use aes_tables::tables;
 use element_cipher::elements::crypt_elements;
-use policies::policy::Policy;
-use policies::uses::{is_cryptex, uses_mask};
 use rtp_header::header::Layout;
 
 // The bytes from `first` up to `stop`, and then from `rest` on, in one unbroken keystream.
@@ -42,42 +40,31 @@ pub fn encrypted_portion(cryptex: bool, h: Layout) -> Portion
 
 // A packet in the form that it has on the wire, whose layout is h. A policy uses the mask or Cryptex, never both: under the mask the packet's own keystream
 // leaves the block of the header extension as it is, and the listed elements have a keystream of their own. Both read the same tables.
-pub fn crypt(
-    keys: Keys,
-    policy: Policy,
-    ids: &[u64; 4],
-    ssrc: u32,
-    index: u64,
-    packet: &mut [u8],
-    h: Layout,
-)
+pub fn crypt(context: &Context, packet: &mut [u8], h: Layout)
     requires h_value { (h ≡ layout_of packet.old) × ((h.payload ≤ length packet.old) × (length packet.old ≤ 2048)) }
-    requires packet_value { elements_fit policy h packet.old ≡ true }
-    ensures { packet.new ≡ cipher_of CmHmac keys policy (listed_in ids.now) ssrc index packet.old }
+    requires packet_value { elements_fit context.now.policy h packet.old ≡ true }
+    ensures { packet.new ≡ cipher_of CmHmac context.now.keys context.now.policy (listed_in context.now.ids) context.now.ssrc context.now.index packet.old }
 {
     let sbox = tables::sbox();
     let table = tables::round_table();
-    let key = keys.cipher;
-    let salt = keys.salt;
-    let r = encrypted_portion(is_cryptex(policy, h), h);
+    let keys = &context.keys;
+    let ssrc = context.ssrc;
+    let index = context.index;
+    let r = encrypted_portion(context.policy.is_cryptex(h), h);
     xor_portion(
-        &sbox, &table, key, salt, ssrc, index, packet, r.first, r.stop, r.rest,
+        &sbox, &table, keys.cipher, keys.salt, ssrc, index, packet, r.first, r.stop, r.rest,
     );
-    if uses_mask(policy) {
-        let header_key = keys.header_cipher;
-        let header_salt = keys.header_salt;
-        let block = h.block;
-        let payload = h.payload;
+    if context.policy.uses_mask() {
         crypt_elements(
             &sbox,
             &table,
-            header_key,
-            header_salt,
+            keys.header_cipher,
+            keys.header_salt,
             ssrc,
             index,
-            &mut packet[block..payload],
+            &mut packet[h.block..h.payload],
             h.tag,
-            ids,
+            &context.ids,
         );
     }
 }

@@ -3,4 +3,5 @@
 #![tactic(auto)]
 
 pub mod cipher;
+pub mod context;
 pub mod keys;

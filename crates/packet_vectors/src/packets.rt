@@ -8,7 +8,7 @@ use session::layout::SIZE;
 use srtp::protect::protect;
 use srtp::unprotect::unprotect;
 use std::io;
-use suites::suite::{Suite, suite_number, tag_length};
+use suites::suite::Suite;
 
 // What both sides of a packet's way agree on.
 #[derive(Clone, Copy)]
@@ -22,7 +22,7 @@ pub struct Setup<'a> {
 impl Setup<'_> {
     // A session with the ids 1, 3 and 4 and the stream cafebabe.
     fn begin(&self, session: &mut [u64], way: u32) {
-        let suite = suite_number(self.suite) as u32;
+        let suite = self.suite as u32;
         make(session, self.key, self.salt, self.policy, &[1, 3, 4], suite);
         add(session, 0xcafebabe, way, 0);
     }
@@ -42,7 +42,7 @@ fn put_packet(rt: &impl Print, what: &str, buf: &[u8], length: usize) -> io::Res
 pub fn both_ways(rt: &impl Print, name: &[u8], setup: &Setup, buf: &mut [u8]) -> io::Result<()>
     ensures { length buf.new ≡ length buf.old }
 {
-    let Some(n) = buf.len().checked_sub(tag_length(setup.suite)) else {
+    let Some(n) = buf.len().checked_sub(setup.suite.tag_length()) else {
         return Ok(());
     };
     let mut session = [0; SIZE];

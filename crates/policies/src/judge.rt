@@ -3,7 +3,7 @@ ghost use Rattle.std.specs.Prelude.{◌≡◌, ◌≤◌, ◌<◌, length};
 ghost use Rattle.policies.specs.Judging.{tail_of, profile_fits, elements_fit, added_of, judged_of};
 
 use crate::policy::{Policy, Way};
-use crate::uses::{adds_block, is_cryptex_tag, uses_cryptex, uses_mask};
+use crate::uses::is_cryptex_tag;
 use bits::refusal::Refusal;
 use rtp_elements::element::whole;
 use rtp_header::header::{Layout, read_header};
@@ -20,16 +20,7 @@ fn tail(way: Way, t: usize) -> usize
 fn sent_profile_fits(policy: Policy, h: Layout) -> bool
     ensures { result ≡ profile_fits Way.Sending policy h }
 {
-    if uses_cryptex(policy) {
-        if h.x {
-            if h.tag == 0xBEDE {
-                return true;
-            }
-            return h.tag == 0x1000;
-        }
-        return true;
-    }
-    true
+    !(policy.uses_cryptex() && h.x) || h.tag == 0xBEDE || h.tag == 0x1000
 }
 
 // Required Cryptex: an extension is encrypted, and contributors never come without one.
@@ -37,22 +28,19 @@ fn required_profile_fits(h: Layout) -> bool
     ensures { result ≡ profile_fits Way.Receiving Policy.CryptexRequired h }
 {
     if h.x {
-        return is_cryptex_tag(h.tag);
+        is_cryptex_tag(h.tag)
+    } else {
+        h.cc == 0
     }
-    h.cc == 0
 }
 
 fn profile_fits(way: Way, policy: Policy, h: Layout) -> bool
     ensures { result ≡ profile_fits way policy h }
 {
-    match way {
-        Way::Sending => sent_profile_fits(policy, h),
-        Way::Receiving => match policy {
-            Policy::Plain => true,
-            Policy::Cryptex => true,
-            Policy::CryptexRequired => required_profile_fits(h),
-            Policy::Mask => true,
-        },
+    match (way, policy) {
+        (Way::Sending, _) => sent_profile_fits(policy, h),
+        (Way::Receiving, Policy::CryptexRequired) => required_profile_fits(h),
+        (Way::Receiving, _) => true,
     }
 }
 
@@ -60,12 +48,7 @@ fn elements_fit(packet: &[u8], policy: Policy, h: Layout) -> bool
     requires { (h.block ≤ h.payload) × (h.payload ≤ length packet.now) }
     ensures { result ≡ elements_fit policy h packet.now }
 {
-    if uses_mask(policy) {
-        let block = h.block;
-        let payload = h.payload;
-        return whole(&packet[block..payload], h.tag);
-    }
-    true
+    !policy.uses_mask() || whole(&packet[h.block..h.payload], h.tag)
 }
 
 // What protecting adds to the length, with tags of t bytes.
@@ -74,7 +57,8 @@ pub fn added(way: Way, policy: Policy, h: Layout, t: usize) -> usize
     ensures { (result ≡ added_of way policy t h) × (result ≤ 260) }
 {
     match way {
-        Way::Sending => { if adds_block(policy, h) { 4 + t } else { t } }
+        Way::Sending if policy.adds_block(h) => 4 + t,
+        Way::Sending => t,
         Way::Receiving => 0,
     }
 }
@@ -84,10 +68,7 @@ pub fn judge(packet: &[u8], way: Way, policy: Policy, t: usize) -> Result<Layout
     requires { t < 256 }
     ensures { result ≡ judged_of way policy t packet.now }
 {
-    let header = read_header(packet, tail(way, t));
-    let Ok(h) = header else {
-        return header;
-    };
+    let h = read_header(packet, tail(way, t))?;
     if !profile_fits(way, policy, h) {
         return Err(Refusal::Profile);
     }

@@ -1,15 +1,25 @@
 // The policies and the two ways of document 01.
+ghost use Rattle.std.specs.Prelude.{◌≡◌};
+ghost use Rattle.policies.specs.Policies.{policy_number};
 
-// Policies 0 to 3.
-#[derive(Clone, Copy)]
+// The discriminant is the document's number.
+#[derive(Clone, Copy, Debug, PartialEq, Eq)]
 pub enum Policy {
-    Plain,
-    Cryptex,
-    CryptexRequired,
-    Mask,
+    Plain = 0,
+    Cryptex = 1,
+    CryptexRequired = 2,
+    Mask = 3,
 }
 
-#[derive(Clone, Copy)]
+impl From<Policy> for u64 {
+    ghost from_gives = { λ policy n. n ≡ policy_number policy };
+
+    fn from(policy: Policy) -> u64 {
+        policy as u64
+    }
+}
+
+#[derive(Clone, Copy, Debug, PartialEq, Eq)]
 pub enum Way {
     Sending,
     Receiving,

@@ -1,5 +1,5 @@
 -- From what was found in the block to the part of the packet that is handed back.
-use Rattle.std.specs.Prelude.{Ok, Err}
+use Rattle.std.specs.Prelude.{Result, Ok, Err}
 use mathlib.Core.Path.{◌≡◌, refl}
 use mathlib.Core.List.{List}
 use Prim.Native.Nat.{ℕ, ◌+◌, ◌-◌, ◌≤◌}
@@ -10,8 +10,6 @@ use lib.Seq.{length-take-le}
 use Rattle.bits.specs.Refusals.{number_of}
 use Rattle.bits.specs.declared.refusal.Refusal.{Refusal}
 use Rattle.rtp_elements.specs.declared.element.Element.{Element}
-use Rattle.rtp_elements.specs.declared.element.Found.{Found}
-use Rattle.rtp_elements.specs.declared.element.Found.TheVariants.{At, Absent, Past}
 use Rattle.rtp_header.specs.declared.header.Layout.{Layout}
 use Rattle.rtp.specs.Finding.{located_of, Part, refused_part, part_of, find_of, HandedBack}
 use Rattle.rtp_elements.specs.Numbers.{found_number}
@@ -19,18 +17,17 @@ use Rattle.rtp_header.specs.Header.{header_of, block_of}
 use Rattle.rtp.specs.Steps.{Inside}
 use Rattle.rtp_header.specs.Order.{Ordered}
 
--- an answer that is not `At` is a refusal
-pub refused-part : (f : Found) (block : ℕ) → ((e : Element) → f ≡ At e → ⊥) → part_of block f ≡ refused_part (found_number f)
-refused-part (At e) block o = absurd (o e refl)
-refused-part Absent block o = refl
-refused-part Past block o = refl
+-- an answer that is not an element is a refusal
+pub refused-part : (f : Result Element Refusal) (block : ℕ) → ((e : Element) → f ≡ Ok e → ⊥) → part_of block f ≡ refused_part (found_number f)
+refused-part (Ok e) block o = absurd (o e refl)
+refused-part (Err r) block o = refl
 
 module _ (p : List ℕ) (id : ℕ) where
   pub not-read : (r : Refusal) → header_of p 0 ≡ Err r → find_of p id ≡ refused_part (number_of r)
   unfolding find_of
   not-read r e = rw e
 
-  pub read : (h : Layout) (f : Found) → header_of p 0 ≡ Ok h → f ≡ located_of h.tag (block_of h p) id → find_of p id ≡ part_of h.block f
+  pub read : (h : Layout) (f : Result Element Refusal) → header_of p 0 ≡ Ok h → f ≡ located_of h.tag (block_of h p) id → find_of p id ≡ part_of h.block f
   unfolding find_of
   read h f e l = rw (e, l)
 
@@ -41,7 +38,7 @@ pub handed : (packet r : Bor (List ℕ)) (id answer : ℕ) (part : Part) → fin
 handed packet r id answer part e a i b o p = rw e (record { answered = a; inside = i; bytes = b; object = o; place = p })
 
 -- an element that ends within its block ends within the packet
-pub inside-packet : (p : List ℕ) (h : Layout) (f : Found) (e : Element) → Ordered (length p - 0) (Ok h) → Inside (length (block_of h p)) f → f ≡ At e
+pub inside-packet : (p : List ℕ) (h : Layout) (f : Result Element Refusal) (e : Element) → Ordered (length p - 0) (Ok h) → Inside (length (block_of h p)) f → f ≡ Ok e
     → h.block + e.begin + e.length ≤ length p
 inside-packet p h f e o i q =
     let n : length (drop h.block p) ≡ length p - h.block = length-drop h.block p in

@@ -1,70 +1,83 @@
 -- Seeking the first element with an id while walking on to the block's end.
+use Rattle.std.specs.Prelude.{Option, Some, None, Result, Ok, Err}
 use mathlib.Core.Path.{◌≡◌, refl, sym, ap, ap₂, ◌∙◌}
-use mathlib.Core.Bool.{Bool, true, false, not}
+use mathlib.Core.Bool.{Bool, true, false, not, true≢false}
+use Rattle.std.specs.Option.{is_some, ok_or}
 use mathlib.Core.List.{List, [], ◌∷◌}
 use Prim.Native.Nat.{ℕ, ◌+◌, ◌≤◌}
+use borrow.Author.Tests.{eq-eqb, ne_eqb}
 use lib.Dec.{eqb}
-use lib.ListN.{drop}
+use lib.ListN.{length, drop}
 use Rattle.bits.specs.Pick.{pick}
+use Rattle.bits.specs.declared.refusal.Refusal.{Refusal}
+use Rattle.bits.specs.declared.refusal.Refusal.TheVariants as refusal
 use Rattle.rtp_elements.specs.declared.element.Element.{Element}
-use Rattle.rtp_elements.specs.declared.element.Found.{Found}
-use Rattle.rtp_elements.specs.declared.element.Found.TheVariants.{At, Absent, Past}
 use Rattle.rtp_elements.specs.Elements.{NextByte, two_byte, start_of, within, whole_from, whole_of, elements_from, elements_of}
 use Rattle.rtp.specs.Finding.{first_with, located_of}
-use Rattle.rtp.specs.Steps.{Inside, kept_of}
+use Rattle.rtp.specs.Steps.{Inside}
 use Rattle.rtp_elements.specs.Next.{next_of}
-use Rattle.rtp_elements.proofs.Stepping.{Stepped, Over, next_past}
+use Rattle.rtp_elements.proofs.Stepping.{Stepped, Over, next_past, next-refusal}
 
 -- what was found, once these elements are looked through too
-abbrev onward : Found → ℕ → List Element → Found
-onward (At f) id es = At f
-onward Absent id es = first_with id es
-onward Past id es = Past
+abbrev onward : Option Element → ℕ → List Element → Result Element Refusal
+onward (Some f) id es = Ok f
+onward None id es = first_with id es
 
-onward-end : (first : Found) (id : ℕ) → onward first id [] ≡ first
-onward-end (At f) id = refl
-onward-end Absent id = refl
-onward-end Past id = refl
+onward-end : (first : Option Element) (id : ℕ) → onward first id [] ≡ ok_or first refusal.Absent
+onward-end (Some f) id = refl
+onward-end None id = refl
 
-by-match : (t : Bool) (e : Element) (id : ℕ) (es : List Element) → onward (pick t (At e) Absent) id es ≡ pick t (At e) (first_with id es)
-by-match true e id es = refl
-by-match false e id es = refl
+-- what is kept where one more element is met: the first match stays
+pub data Kept (first : Option Element) (e : Element) (id : ℕ) (kept : Option Element) : Type 0 where
+  here : is_some first ≡ false → e.id ≡ id → kept ≡ Some e → Kept first e id kept
+  other : (e.id ≡ id → ⊥) → kept ≡ first → Kept first e id kept
+  there : is_some first ≡ true → kept ≡ first → Kept first e id kept
 
-onward-next : (first : Found) (e : Element) (id : ℕ) (es : List Element) → onward (kept_of first e id) id es ≡ onward first id (e ∷ es)
-onward-next (At f) e id es = refl
-onward-next Absent e id es = by-match (eqb e.id id) e id es
-onward-next Past e id es = refl
+onward-next : (first kept : Option Element) (e : Element) (id : ℕ) (es : List Element) → Kept first e id kept → onward kept id es ≡ onward first id (e ∷ es)
+onward-next (Some f) kept e id es (here n i k) = absurd (true≢false n)
+onward-next None kept e id es (here n i k) = rw k (simp (eq-eqb e.id id i))
+onward-next (Some f) kept e id es (other n k) = rw k
+onward-next None kept e id es (other n k) = rw k (simp (ne_eqb e.id id n))
+onward-next (Some f) kept e id es (there n k) = rw k
+onward-next None kept e id es (there n k) = absurd (true≢false (sym n))
 
-by-inside : (t : Bool) (size : ℕ) (e : Element) → e.begin + e.length ≤ size → Inside size (pick t (At e) Absent)
-by-inside true size e h = h
-by-inside false size e h = tt
-
-pub kept-inside : (size : ℕ) (first : Found) (e : Element) (id : ℕ) → Inside size first → e.begin + e.length ≤ size → Inside size (kept_of first e id)
-kept-inside size (At f) e id w h = w
-kept-inside size Absent e id w h = by-inside (eqb e.id id) size e h
-kept-inside size Past e id w h = tt
+kept-inside : (size : ℕ) (first kept : Option Element) (e : Element) (id : ℕ) → Kept first e id kept → Inside size (ok_or first refusal.Absent) → e.begin + e.length ≤ size
+    → Inside size (ok_or kept refusal.Absent)
+kept-inside size first kept e id (here n i k) w h = rw k h
+kept-inside size first kept e id (other n k) w h = rw k w
+kept-inside size first kept e id (there n k) w h = rw k w
 
 module _ (tag : ℕ) (block : List ℕ) (id : ℕ) where
   -- what the walk will have found, from place i on with `first` so far
-  unfoldable pub ahead : Found → ℕ → Found
+  unfoldable pub ahead : Option Element → ℕ → Result Element Refusal
   ahead first i =
-      pick (whole_from (two_byte tag) (start_of tag) (drop i block)) (onward first id (elements_from (two_byte tag) (start_of tag) i (drop i block))) Past
+      pick (whole_from (two_byte tag) (start_of tag) (drop i block)) (onward first id (elements_from (two_byte tag) (start_of tag) i (drop i block))) (Err refusal.Element)
 
-  pub ahead-start : ahead Absent 0 ≡ located_of tag block id
+  -- place i is reached
+  pub record Sought (first : Option Element) (i : ℕ) : Type 0 where
+    pub inside : Inside (length block) (ok_or first refusal.Absent)
+    pub found : ahead first i ≡ located_of tag block id
+
+  pub sought-start : Sought None 0
   unfolding ahead located_of whole_of elements_of
-  ahead-start = refl
+  sought-start = record { inside = tt; found = refl }
 
-  pub ahead-next : (first : Found) (i : ℕ) (e : Element) → Stepped tag block i e → ahead (kept_of first e id) (e.begin + e.length) ≡ ahead first i
+  pub sought-next : (first kept : Option Element) (i : ℕ) (e : Element) → Kept first e id kept → Stepped tag block i e → Sought first i → Sought kept (e.begin + e.length)
   unfolding ahead
-  ahead-next first i e s =
-      ap₂ (λ (w : Bool) (f : Found). pick w f Past) (ap (λ (p : NextByte). not (within p)) (sym s.end))
-      (onward-next first e id (elements_from (two_byte tag) (start_of tag) (e.begin + e.length) (drop (e.begin + e.length) block))
-      ∙ ap (onward first id) (sym s.elements))
+  sought-next first kept i e k s w =
+      record {
+        inside = kept-inside (length block) first kept e id k w.inside s.inside;
+        found =
+            ap₂ (λ (t : Bool) (f : Result Element Refusal). pick t f (Err refusal.Element)) (ap (λ (p : NextByte). not (within p)) (sym s.end))
+            (onward-next first kept e id (elements_from (two_byte tag) (start_of tag) (e.begin + e.length) (drop (e.begin + e.length) block)) k
+            ∙ ap (onward first id) (sym s.elements))
+            ∙ w.found;
+      }
 
-  pub ahead-over : (first : Found) (i : ℕ) → Over tag block i → ahead first i ≡ first
+  pub sought-end : (first : Option Element) (i : ℕ) → Sought first i → Over tag block i → ok_or first refusal.Absent ≡ located_of tag block id
   unfolding ahead
-  ahead-over first i o = rw (o.whole, o.elements) (onward-end first id)
+  sought-end first i w o = sym (onward-end first id) ∙ sym (rw (o.whole, o.elements)) ∙ w.found
 
-  pub ahead_past : (first : Found) (i : ℕ) → next_of tag block i ≡ Past → ahead first i ≡ Past
+  pub sought-past : (first : Option Element) (i : ℕ) (r : Refusal) → Sought first i → next_of tag block i ≡ Err r → Err r ≡ located_of tag block id
   unfolding ahead
-  ahead_past first i q = rw (next_past tag block i q)
+  sought-past first i r w q = rw (next-refusal tag block i r q) (sym (rw (next_past tag block i r q)) ∙ w.found)

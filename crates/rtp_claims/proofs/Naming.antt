@@ -1,4 +1,6 @@
 -- Ids that no element has.
+use Rattle.std.specs.Prelude.{Err}
+use Rattle.bits.specs.declared.refusal.Refusal.TheVariants as refusal
 use mathlib.Core.Path.{◌≡◌, refl, ◌∙◌}
 use mathlib.Core.Bool.{Bool, true, false, ◌||◌}
 use mathlib.Core.List.{List, [], ◌∷◌, ◌++◌}
@@ -8,7 +10,6 @@ use borrow.Author.Tests.{eqb-false, ne_eqb, not-true}
 use lib.Dec.{eqb}
 use lib.ListN.{get_or}
 use Rattle.rtp_elements.specs.declared.element.Element.{Element}
-use Rattle.rtp_elements.specs.declared.element.Found.TheVariants.{Absent}
 use Rattle.rtp_claims.specs.Claims.{NeverFound}
 use Rattle.rtp_elements.specs.Elements.{NextByte, Between, Length, Data, Ended, two_byte, has_elements, start_of, data_of, opens, first_of, step_of, whole_of, begun_of, elements_from, elements_of}
 use Rattle.rtp.specs.Finding.{first_with, located_of}
@@ -54,7 +55,7 @@ module _ (two : Bool) (id : ℕ) where
   skip (Data y n) i x r g h = refl
   skip Ended i x r g h = refl
 
-  none_named : (p : NextByte) (i : ℕ) (l : List ℕ) → Good id p → ((k : ℕ) → Other two id (get_or l k 0)) → first_with id (elements_from two p i l) ≡ Absent
+  none_named : (p : NextByte) (i : ℕ) (l : List ℕ) → Good id p → ((k : ℕ) → Other two id (get_or l k 0)) → first_with id (elements_from two p i l) ≡ Err refusal.Absent
   none_named p i [] g h = refl
   none_named p i (x ∷ l) g h =
       skip p i x (elements_from two (step_of two p x) (i + 1) l) g (h 0)
@@ -64,7 +65,7 @@ start-good : (id tag : ℕ) (t : Bool) → has_elements tag ≡ t → Good id (s
 start-good id tag true e = rw e tt
 start-good id tag false e = rw e tt
 
-pub located : (tag : ℕ) (block : List ℕ) (id : ℕ) → whole_of tag block ≡ true → ((k : ℕ) → Other (two_byte tag) id (get_or block k 0)) → located_of tag block id ≡ Absent
+pub located : (tag : ℕ) (block : List ℕ) (id : ℕ) → whole_of tag block ≡ true → ((k : ℕ) → Other (two_byte tag) id (get_or block k 0)) → located_of tag block id ≡ Err refusal.Absent
 unfolding located_of elements_of
 located tag block id w h = rw w (none_named (two_byte tag) id (start_of tag) 0 block (start-good id tag (has_elements tag) refl) h)
 

@@ -1,8 +1,8 @@
 -- What is claimed of the definitions of header (RFC 3550), elements (RFC 8285) and mask (RFC 6904) themselves.
-use Rattle.std.specs.Prelude.{◌≡◌, Bool, true, false, ◌&&◌, ◌||◌, List, [], ◌∷◌, ℕ, ◌+◌, ◌≤◌, ◌<◌, leb, ltb, length, get_or}
+use Rattle.std.specs.Prelude.{◌≡◌, Bool, true, false, ◌&&◌, ◌||◌, List, [], ◌∷◌, ℕ, ◌+◌, ◌≤◌, ◌<◌, leb, ltb, length, get_or, Err}
+use Rattle.bits.specs.declared.refusal.Refusal.TheVariants as refusal
 use Rattle.bits.specs.Pick.{pick}
 use Rattle.rtp_elements.specs.declared.element.Element.{Element}
-use Rattle.rtp_elements.specs.declared.element.Found.TheVariants.{Absent}
 use Rattle.rtp_elements.specs.Elements.{whole_of, elements_of}
 use Rattle.rtp.specs.Finding.{located_of}
 use Rattle.rtp_header.specs.Header.{version_of, has_extension, count_of, past_contributors, layout_of, header_of}
@@ -26,8 +26,8 @@ pub record HeaderAlone : Type 0 where
 
 -- In a block that is whole, and whose bytes are below 256, id 0 is never found, and in a one-byte block no id from 15 on is.
 pub record NeverFound : Type 0 where
-  pub zero-id : (tag : ℕ) (block : List ℕ) → whole_of tag block ≡ true → located_of tag block 0 ≡ Absent
-  pub high-id : (block : List ℕ) (id : ℕ) → ((i : ℕ) → get_or block i 0 < 256) → whole_of 0xBEDE block ≡ true → 15 ≤ id → located_of 0xBEDE block id ≡ Absent
+  pub zero-id : (tag : ℕ) (block : List ℕ) → whole_of tag block ≡ true → located_of tag block 0 ≡ Err refusal.Absent
+  pub high-id : (block : List ℕ) (id : ℕ) → ((i : ℕ) → get_or block i 0 < 256) → whole_of 0xBEDE block ≡ true → 15 ≤ id → located_of 0xBEDE block id ≡ Err refusal.Absent
 
 -- ---- the mask
 

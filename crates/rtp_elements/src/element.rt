@@ -4,61 +4,48 @@ ghost use Rattle.rtp_elements.specs.Elements.{Length, Between, two_byte, has_ele
 ghost use Rattle.rtp_elements.specs.Numbers.{found_number};
 ghost use Rattle.rtp_elements.specs.Next.{next_by, next_of};
 
-use bits::refusal::{Refusal, number};
+use bits::refusal::Refusal;
 
 // An element: its id, where in the block its data begins, and the data's length.
-#[derive(Clone, Copy)]
+#[derive(Clone, Copy, Debug, PartialEq, Eq)]
 pub struct Element {
     pub id: u8,
     pub begin: usize,
     pub length: usize,
 }
 
-// An element that was sought; none; or one that runs past its block.
-#[derive(Clone, Copy)]
-pub enum Found {
-    At(Element),
-    Absent,
-    Past,
-}
-
 fn two_byte(tag: u16) -> bool
     ensures { result ≡ two_byte tag }
 {
-    if 0x1000 <= tag { tag <= 0x100F } else { false }
+    0x1000 <= tag && tag <= 0x100F
 }
 
 fn has_elements(tag: u16) -> bool
     ensures { result ≡ has_elements tag }
 {
-    if tag == 0xBEDE {
-        return true;
-    }
-    two_byte(tag)
+    tag == 0xBEDE || two_byte(tag)
 }
 
 // The element, if it ends within `size` bytes.
-fn fitted(element: Element, size: usize) -> Found
+fn fitted(element: Element, size: usize) -> Result<Option<Element>, Refusal>
     requires { element.begin ≤ size }
     ensures { result ≡ next_by size true (element ∷ []) }
 {
     if element.length <= size - element.begin {
-        return Found::At(element);
+        Ok(Some(element))
+    } else {
+        Err(Refusal::Element)
     }
-    Found::Past
 }
 
 // The element with the one-byte header x at place i.
-fn one_byte_element(x: u8, i: usize, size: usize) -> Found
+fn one_byte_element(x: u8, i: usize, size: usize) -> Result<Option<Element>, Refusal>
     requires { i < size }
     ensures { result ≡ next_by size true (begun_of false Between i x) }
 {
     let id = x / 16;
-    if id == 0 {
-        return Found::Absent;
-    }
-    if id == 15 {
-        return Found::Absent;
+    if id == 0 || id == 15 {
+        return Ok(None);
     }
     let element = Element {
         id,
@@ -69,7 +56,7 @@ fn one_byte_element(x: u8, i: usize, size: usize) -> Found
 }
 
 // The element with the length n at place i, after its id.
-fn two_byte_element(id: u8, n: u8, i: usize, size: usize) -> Found
+fn two_byte_element(id: u8, n: u8, i: usize, size: usize) -> Result<Option<Element>, Refusal>
     requires { i < size }
     ensures { result ≡ next_by size true (begun_of true (Length id) i n) }
 {
@@ -82,34 +69,32 @@ fn two_byte_element(id: u8, n: u8, i: usize, size: usize) -> Found
 }
 
 // What stands at place i, where no padding does.
-fn element_at(block: &[u8], tag: u16, i: usize) -> Found
+fn element_at(block: &[u8], tag: u16, i: usize) -> Result<Option<Element>, Refusal>
     requires { (has_elements tag ≡ true) × ((i < length block.now) × (get_or block.now i 0 ≡ 0 → ⊥)) }
     ensures { result ≡ next_of tag block.now i }
 {
     let size = block.len();
     if two_byte(tag) {
         if i + 1 == size {
-            return Found::Past;
+            return Err(Refusal::Element);
         }
         return two_byte_element(block[i], block[i + 1], i + 1, size);
     }
     one_byte_element(block[i], i, size)
 }
 
-// The next element from a place on, which is the block's start or the end of an element.
-pub fn next(block: &[u8], tag: u16, from: usize) -> Found
+// The next element from a place on, which is the block's start or the end of an element; ELEMENT where one runs past the block.
+pub fn next(block: &[u8], tag: u16, from: usize) -> Result<Option<Element>, Refusal>
     ensures { result ≡ next_of tag block.now from }
 {
     if has_elements(tag) {
-        let mut i = from;
-        while i < block.len() {
+        for i in from..block.len() {
             if block[i] != 0 {
                 return element_at(block, tag, i);
             }
-            i += 1;
         }
     }
-    Found::Absent
+    Ok(None)
 }
 
 // No element runs past the block.
@@ -117,29 +102,21 @@ pub fn whole(block: &[u8], tag: u16) -> bool
     ensures { result ≡ whole_of tag block.now }
 {
     let mut i: usize = 0;
-    while i < block.len() {
+    loop {
         match next(block, tag, i) {
-            Found::At(element) => {
-                i = element.begin + element.length;
-            }
-            Found::Absent => {
-                return true;
-            }
-            Found::Past => {
-                return false;
-            }
+            Ok(Some(element)) => i = element.begin + element.length,
+            Ok(None) => return true,
+            Err(_) => return false,
         }
     }
-    true
 }
 
 // Document 01's number for what was found.
-pub fn found_number(found: Found) -> u8
+pub fn found_number(found: Result<Element, Refusal>) -> u8
     ensures { result ≡ found_number found }
 {
     match found {
-        Found::At(_) => 0,
-        Found::Absent => number(Refusal::Absent),
-        Found::Past => number(Refusal::Element),
+        Ok(_) => 0,
+        Err(refusal) => u8::from(refusal),
     }
 }

@@ -6,7 +6,7 @@ use mathlib.Core.Bool.{Bool, true, false, not}
 use mathlib.Core.List.{List, [], ◌∷◌}
 use Prim.Native.Nat.{ℕ, ◌+◌, ◌-◌, ◌*◌, ◌/◌, ◌≤◌, ◌<◌}
 use native.Mathlib.Omega.{arith}
-use borrow.Author.Tests.{lt-ltb, le-ltb, eq-eqb, ne_eqb}
+use borrow.Author.Tests.{lt-ltb, le-ltb}
 use lib.Dec.{eqb, ltb}
 use lib.ListN.{length, get_or}
 use Rattle.bits.specs.BigEndian.{from_bytes}
@@ -20,13 +20,13 @@ module _ (p : List ℕ) (t : ℕ) where
   unfolding header_of
   is-short h = simp (lt-ltb (length p) (12 + t) h)
 
-  pub other-version : 12 + t ≤ length p → (get_or p 0 0 / 64 ≡ 2 → ⊥) → Err refusal.Version ≡ header_of p t
+  pub other-version : 12 + t ≤ length p → eqb (get_or p 0 0 / 64) 2 ≡ false → Err refusal.Version ≡ header_of p t
   unfolding header_of
-  other-version long v = simp (le-ltb (length p) (12 + t) long, ne_eqb (get_or p 0 0 / 64) 2 v)
+  other-version long v = simp (le-ltb (length p) (12 + t) long, v)
 
-  pub right-version : 12 + t ≤ length p → get_or p 0 0 / 64 ≡ 2 → bounded_of p (length p - t) ≡ header_of p t
+  pub right-version : 12 + t ≤ length p → eqb (get_or p 0 0 / 64) 2 ≡ true → bounded_of p (length p - t) ≡ header_of p t
   unfolding header_of
-  right-version long v = simp (le-ltb (length p) (12 + t) long, eq-eqb (get_or p 0 0 / 64) 2 v)
+  right-version long v = simp (le-ltb (length p) (12 + t) long, v)
 
 -- P of the answer: of every refusal, and of the packet's layout
 module _ (P : Result Layout Refusal → Type 0) (refused : (r : Refusal) → P (Err r)) where
@@ -49,27 +49,37 @@ module _ (p : List ℕ) (end : ℕ) where
   unfolding bounded_of layout_of
   inside x e h = simp (e, le-ltb end (layout_by x p).payload h)
 
-  -- X = 0: cc and at as they were read
-  module _ (x : has_extension p ≡ false) (cc at : ℕ) (ec : cc ≡ count_of p) (ea : at ≡ past_contributors p) where
-    pub contributors-past : end < at → Err refusal.Header ≡ bounded_of p end
-    contributors-past h = past false x (omega arith)
+  -- h is the layout without an extension
+  module _ (h : Layout) (e : h ≡ layout_by false p) where
+    -- X = 0
+    module _ (x : has_extension p ≡ false) where
+      pub contributors-past : end < h.extension → Err refusal.Header ≡ bounded_of p end
+      contributors-past b = past false x (rw e at b)
 
-    pub plain : at ≤ end
-        → Ok (record { cc = cc; x = false; tag = 0; contributors = 12; extension = at; block = at; payload = at }) ≡ bounded_of p end
-    plain h = rw (ec, ea) (inside false x (omega arith))
+      pub plain : h.extension ≤ end → Ok h ≡ bounded_of p end
+      plain b = rw e (inside false x (rw e at b))
 
-  -- X = 1: tag and words too
-  module _ (x : has_extension p ≡ true) (cc at : ℕ) (ec : cc ≡ count_of p) (ea : at ≡ past_contributors p) where
-    pub extension-past : end < at + 4 → Err refusal.Header ≡ bounded_of p end
-    extension-past h = past true x (omega arith)
+    -- X = 1: the extension's tag and its length in words are read after the contributing sources
+    module _ (x : has_extension p ≡ true) where
+      pub extension-past : end < h.extension + 4 → Err refusal.Header ≡ bounded_of p end
+      extension-past b = let l : end < past_contributors p + 4 = rw e at b in past true x (omega arith)
 
-    module _ (tag words : ℕ) (et : tag ≡ field16 p at) (ew : words ≡ from_bytes (get_or p (at + 2) 0 ∷ get_or p (at + 3) 0 ∷ [])) where
-      words-read : words ≡ field16 p (past_contributors p + 2)
-      words-read = ew ∙ ap (λ (k : ℕ). from_bytes (get_or p (at + 2) 0 ∷ get_or p k 0 ∷ [])) (omega arith) ∙ ap (λ (k : ℕ). field16 p (k + 2)) ea
+      module _ (tag words : ℕ) (et : tag ≡ field16 p h.extension) (ew : words ≡ from_bytes (get_or p (h.extension + 2) 0 ∷ get_or p (h.extension + 3) 0 ∷ [])) where
+        tag-read : tag ≡ field16 p (past_contributors p)
+        tag-read = rw e at et
 
-      pub block-past : end < at + 4 + 4 * words → Err refusal.Header ≡ bounded_of p end
-      block-past h = let w = words-read in past true x (omega arith)
+        words-read : words ≡ field16 p (past_contributors p + 2)
+        words-read =
+            ew ∙ ap (λ (k : ℕ). from_bytes (get_or p (h.extension + 2) 0 ∷ get_or p k 0 ∷ [])) (omega arith)
+            ∙ ap (λ (k : Layout). field16 p (k.extension + 2)) e
 
-      pub extended : at + 4 + 4 * words ≤ end
-          → Ok (record { cc = cc; x = true; tag = tag; contributors = 12; extension = at; block = at + 4; payload = at + 4 + 4 * words }) ≡ bounded_of p end
-      extended h = let w = words-read in rw (ec, w, et, ea) (inside true x (omega arith))
+        pub block-past : end < h.extension + 4 + 4 * words → Err refusal.Header ≡ bounded_of p end
+        block-past b = let w = words-read in let l : end < past_contributors p + 4 + 4 * words = rw e at b in past true x (omega arith)
+
+        pub extended : h.extension + 4 + 4 * words ≤ end
+            → Ok (record { cc = h.cc; x = true; tag = tag; contributors = h.contributors; extension = h.extension; block = h.extension + 4; payload = h.extension + 4 + 4 * words })
+            ≡ bounded_of p end
+        extended b =
+            let w = words-read in
+            let l : past_contributors p + 4 + 4 * words ≤ end = rw e at b in
+            rw (e, w, tag-read) (inside true x (omega arith))

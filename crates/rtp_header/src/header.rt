@@ -1,13 +1,13 @@
 // The header of a packet: where its parts begin, or why it cannot be read.
-ghost use Rattle.std.specs.Prelude.{◌≡◌, true, ◌-◌, ◌≤◌, length};
-ghost use Rattle.rtp_header.specs.Header.{has_extension, count_of, past_contributors, bounded_of, header_of, header_number};
+ghost use Rattle.std.specs.Prelude.{◌≡◌, true, false, ◌-◌, ◌/◌, ◌≤◌, eqb, length};
+ghost use Rattle.rtp_header.specs.Header.{has_extension, layout_by, bounded_of, header_of, header_number};
 ghost use Rattle.rtp_header.specs.Order.{Ordered};
 
 use bits::big_endian::read16;
-use bits::refusal::{Refusal, number};
+use bits::refusal::Refusal;
 
 // Where the parts of a packet begin. Without an extension (X = 0) the tag is 0, and block and payload begin after the contributing sources.
-#[derive(Clone, Copy)]
+#[derive(Clone, Copy, Debug, PartialEq, Eq)]
 pub struct Layout {
     pub cc: usize,
     pub x: bool,
@@ -18,13 +18,21 @@ pub struct Layout {
     pub payload: usize,
 }
 
-// X = 1: the extension header stands at `at`, and neither it nor its block may pass `end`.
-fn read_extension(packet: &[u8], cc: usize, at: usize, end: usize) -> Result<Layout, Refusal>
+// V = 2, whatever the P bit beside it is.
+fn is_version_2(first: u8) -> bool
+    ensures { result ≡ eqb (first / 64) 2 }
+{
+    first / 64 == 2
+}
+
+// X = 1: the extension header stands where the layout without it has the payload, and neither it nor its block may pass `end`.
+fn read_extension(packet: &[u8], plain: Layout, end: usize) -> Result<Layout, Refusal>
     requires packet_value { has_extension packet.now ≡ true }
-    requires cc_value { (cc ≡ count_of packet.now) × ((at ≡ past_contributors packet.now) × (end ≤ length packet.now)) }
+    requires plain_value { (plain ≡ layout_by false packet.now) × (end ≤ length packet.now) }
     ensures value { result ≡ bounded_of packet.now end }
     ensures ordered { Ordered end result }
 {
+    let at = plain.extension;
     let block = at + 4;
     if end < block {
         return Err(Refusal::Header);
@@ -36,13 +44,11 @@ fn read_extension(packet: &[u8], cc: usize, at: usize, end: usize) -> Result<Lay
         return Err(Refusal::Header);
     }
     Ok(Layout {
-        cc,
         x: true,
         tag,
-        contributors: 12,
-        extension: at,
         block,
         payload,
+        ..plain
     })
 }
 
@@ -53,26 +59,17 @@ pub fn read_header(packet: &[u8], t: usize) -> Result<Layout, Refusal>
     ensures ordered { Ordered (length packet.now - t) result }
 {
     let n = packet.len();
-    if n < t {
+    if n < t || n - t < 12 {
         return Err(Refusal::Short);
     }
     let end = n - t;
-    if end < 12 {
-        return Err(Refusal::Short);
-    }
     let first = packet[0];
-    if first / 64 != 2 {
+    if !is_version_2(first) {
         return Err(Refusal::Version);
     }
     let cc = (first % 16) as usize;
     let at = 12 + 4 * cc;
-    if first / 16 % 2 == 1 {
-        return read_extension(packet, cc, at, end);
-    }
-    if end < at {
-        return Err(Refusal::Header);
-    }
-    Ok(Layout {
+    let plain = Layout {
         cc,
         x: false,
         tag: 0,
@@ -80,7 +77,14 @@ pub fn read_header(packet: &[u8], t: usize) -> Result<Layout, Refusal>
         extension: at,
         block: at,
         payload: at,
-    })
+    };
+    if first / 16 % 2 == 1 {
+        return read_extension(packet, plain, end);
+    }
+    if end < at {
+        return Err(Refusal::Header);
+    }
+    Ok(plain)
 }
 
 // The number of a reader's answer: 0 where the header was read.
@@ -89,6 +93,6 @@ pub fn header_number(header: Result<Layout, Refusal>) -> u8
 {
     match header {
         Ok(_) => 0,
-        Err(refusal) => number(refusal),
+        Err(refusal) => u8::from(refusal),
     }
 }

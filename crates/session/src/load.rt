@@ -10,7 +10,7 @@ use hmac::key::KeyStates;
 use memory::words::{bytes14, bytes16};
 use packet_cipher::keys::Keys;
 use policies::policy::Policy;
-use suites::suite::{Suite, suite_of};
+use suites::suite::Suite;
 
 // A made session has this first word.
 pub fn is_made(first: u64) -> bool
@@ -52,7 +52,7 @@ pub fn load_suite(first: u64) -> Suite
     ensures { result ≡ suite_at first }
 {
     if is_made(first) {
-        return suite_of((first - MARK) / 4);
+        return Suite::from((first - MARK) / 4);
     }
     Suite::CmHmac
 }

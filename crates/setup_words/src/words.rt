@@ -12,7 +12,7 @@ use session::layout::{
     CIPHER, FRONT, HASH, HEADER_CIPHER, HEADER_SALT, IDS, INNER, MARK, MASTER_KEY, MASTER_SALT,
     OUTER, SALT,
 };
-use suites::suite::{Suite, suite_number};
+use suites::suite::Suite;
 
 fn with_two(words: [u64; FRONT], at: usize, two: [u64; 2]) -> [u64; FRONT]
     requires { at + 2 ≤ front }
@@ -66,7 +66,7 @@ pub fn front_words(
     let outer = auth.outer;
     let hash = keys.hash;
     let mut words = [0u64; FRONT];
-    words[0] = MARK + (policy + 4 * suite_number(suite));
+    words[0] = MARK + (policy + 4 * u64::from(suite));
     words = with_two(words, MASTER_KEY, halves16(key));
     words = with_two(words, MASTER_SALT, halves14(salt));
     copy(&mut words[IDS..CIPHER], &ids);

@@ -1,7 +1,7 @@
 -- Reading blocks out of a list, and blocks of a list's front.
 use Rattle.std.proofs.Common.{◌≡◌, ℕ, zero, suc, ◌+◌, ◌-◌, ◌*◌, ◌<◌, ◌≤◌, List, [], ◌∷◌, ◌++◌, length, get_or, drop, set, replicate, sym, refl, ap, ◌∙◌, ap₂, append_assoc, append-nil, add-zero, add_assoc, add-suc, add-one, arith, length-append, length-drop, get_or-drop}
 use lib.ListN.{get_or-append}
-use lib.Seq.{paste, paste-suc, drop-append-le, drop-append-add, set_at}
+use lib.Seq.{drop-append-le, drop-append-add, set_at}
 use Rattle.sha1_compress.specs.Hash.{compress_of, blocks_of}
 use Rattle.sha1_compress.specs.Message.{word_at, words_in}
 
@@ -52,13 +52,6 @@ blocks-none h b = refl
 pub block_more : (h b s m u : List ℕ) (i : ℕ) → s ≡ blocks_of i h b → m ≡ words_in 16 (drop (64 * i) b) → u ≡ compress_of s m → u ≡ blocks_of (i + 1) h b
 unfolding blocks_of
 block_more h b s m u i es em eu = eu ∙ ap₂ compress_of es em ∙ ap (λ (k : ℕ). blocks_of k h b) (sym (add-one i))
-
--- a turn of the loop that copies into the buffer
-pub pasted : (d b s : List ℕ) (k i : ℕ) → k + i < length d → i < length s → b ≡ paste d k s i → set b (k + i) (get_or s i 0) ≡ paste d k s (i + 1)
-pasted d b s k i hd hs e =
-    ap (λ (l : List ℕ). set l (k + i) (get_or s i 0)) e
-    ∙ paste-suc d k s i 0 hd hs
-    ∙ ap (paste d k s) (sym (add-one i))
 
 -- words and blocks of the front
 pub word-front : (p q : List ℕ) (i : ℕ) → i + 4 ≤ length p → word_at (p ++ q) i ≡ word_at p i

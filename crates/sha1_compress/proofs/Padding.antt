@@ -12,15 +12,15 @@ use Rattle.sha1_compress.proofs.Blocks.{blocks-front, blocks-add}
 
 -- the buffer
 -- what pasting s over the zeros after p gives
-pub filled_more : (p s y : List ℕ) (k m : ℕ) → length p ≡ k → length s ≡ m → k + m ≤ 128
-    → y ≡ paste (p ++ replicate (128 - k) 0) k s m → y ≡ (p ++ s) ++ replicate (128 - (k + m)) 0
-filled_more p s y k m lp ls b e =
-    let z : List ℕ = replicate (128 - k) 0 in
-    let en : 128 - k - m ≡ 128 - (k + m) = omega arith in
+pub filled_more : (n : ℕ) (p s y : List ℕ) (k m : ℕ) → length p ≡ k → length s ≡ m → k + m ≤ n
+    → y ≡ paste (p ++ replicate (n - k) 0) k s m → y ≡ (p ++ s) ++ replicate (n - (k + m)) 0
+filled_more n p s y k m lp ls b e =
+    let z : List ℕ = replicate (n - k) 0 in
+    let en : n - k - m ≡ n - (k + m) = omega arith in
     e
     ∙ ap₂ (λ (u v : List ℕ). u ++ v)
     (ap₂ (λ (u v : List ℕ). u ++ v) (take_at p z k lp) (take_all m s (omega arith)))
-    (sym (drop-drop m k (p ++ z)) ∙ ap (drop m) (drop_at p z k lp) ∙ drop-replicate m (128 - k) 0 ∙ ap (λ (j : ℕ). replicate j 0) en)
+    (sym (drop-drop m k (p ++ z)) ∙ ap (drop m) (drop_at p z k lp) ∙ drop-replicate m (n - k) 0 ∙ ap (λ (j : ℕ). replicate j 0) en)
 
 -- how many zeros the padding has where the end is in one block or in two, and that whole blocks before do not change it
 pub one_block : (m : ℕ) → m < 56 → 64 * 1 ≡ m + 9 + zeros_of m
@@ -60,7 +60,7 @@ module _ (p : List ℕ) (x e : ℕ) (h : e ≡ length p + 9 + zeros_of (length p
   unfolding closed_of front
   closed_is y ey =
       let e3 : 128 - (e - 8 + 8) ≡ 128 - e = omega arith in
-      filled_more front (to_bytes 8 x) y (e - 8) 8 front_length (length_to 8 x) (omega arith) (ey ∙ ap (λ (u : List ℕ). paste u (e - 8) (to_bytes 8 x) 8) marked)
+      filled_more 128 front (to_bytes 8 x) y (e - 8) 8 front_length (length_to 8 x) (omega arith) (ey ∙ ap (λ (u : List ℕ). paste u (e - 8) (to_bytes 8 x) 8) marked)
       ∙ ap₂ (λ (u : List ℕ) (k : ℕ). u ++ replicate k 0) (append_assoc p (0x80 ∷ replicate (zeros_of (length p)) 0) (to_bytes 8 x)) e3
 
 -- the buffer of zeros after each store: two parts, the byte 0x80, and the number of bits
@@ -75,9 +75,9 @@ closed l t d y y1 y2 y3 n x h b e e1 e2 ed e3 =
     let lp : length (l ++ t) ≡ length l + length t = length-append l t in
     let h1 : 64 * n ≡ length (l ++ t) + 9 + zeros_of (length (l ++ t)) = h ∙ ap (λ (i : ℕ). i + 9 + zeros_of i) (sym lp) in
     let q1 : y1 ≡ l ++ replicate (128 - length l) 0 =
-    filled_more [] l y1 0 (length l) refl refl (omega arith) (e1 ∙ ap (λ (u : List ℕ). paste u 0 l (length l)) e) ∙ ap (λ (i : ℕ). l ++ replicate (128 - i) 0) (zero-add (length l)) in
+    filled_more 128 [] l y1 0 (length l) refl refl (omega arith) (e1 ∙ ap (λ (u : List ℕ). paste u 0 l (length l)) e) ∙ ap (λ (i : ℕ). l ++ replicate (128 - i) 0) (zero-add (length l)) in
     let q2 : y2 ≡ (l ++ t) ++ replicate (128 - length (l ++ t)) 0 =
-    filled_more l t y2 (length l) (length t) refl refl (omega arith) (e2 ∙ ap (λ (u : List ℕ). paste u (length l) t (length t)) q1)
+    filled_more 128 l t y2 (length l) (length t) refl refl (omega arith) (e2 ∙ ap (λ (u : List ℕ). paste u (length l) t (length t)) q1)
     ∙ ap (λ (i : ℕ). (l ++ t) ++ replicate (128 - i) 0) (sym lp) in
     closed_is (l ++ t) x (64 * n) h1 b y3
     (e3 ∙ ap (λ (u : List ℕ). paste (set y2 (length l + length t) 0x80) (64 * n - 8) u (length u)) ed

@@ -15,28 +15,11 @@ pub fn start() -> [u32; 5]
 pub fn digest(h: [u32; 5]) -> [u8; 20]
     ensures { result ≡ digest_of h }
 {
-    [
-        (h[0] / 16777216 % 256) as u8,
-        (h[0] / 65536 % 256) as u8,
-        (h[0] / 256 % 256) as u8,
-        (h[0] % 256) as u8,
-        (h[1] / 16777216 % 256) as u8,
-        (h[1] / 65536 % 256) as u8,
-        (h[1] / 256 % 256) as u8,
-        (h[1] % 256) as u8,
-        (h[2] / 16777216 % 256) as u8,
-        (h[2] / 65536 % 256) as u8,
-        (h[2] / 256 % 256) as u8,
-        (h[2] % 256) as u8,
-        (h[3] / 16777216 % 256) as u8,
-        (h[3] / 65536 % 256) as u8,
-        (h[3] / 256 % 256) as u8,
-        (h[3] % 256) as u8,
-        (h[4] / 16777216 % 256) as u8,
-        (h[4] / 65536 % 256) as u8,
-        (h[4] / 256 % 256) as u8,
-        (h[4] % 256) as u8,
-    ]
+    let mut out = [0u8; 20];
+    for (i, word) in h.iter().enumerate() {
+        out[4 * i..4 * i + 4].copy_from_slice(&word.to_be_bytes());
+    }
+    out
 }
 
 // SHA-1.

@@ -22,11 +22,8 @@ fn block(b: &[u8], at: usize) -> [u32; 16]
     ensures { result ≡ words_in 16 (drop at b.now) }
 {
     let mut w = [0u32; 16];
-    let mut i: usize = 0;
-    while i < 16 {
-        let x = word(b, at + 4 * i);
-        w[i] = x;
-        i += 1;
+    for (i, x) in w.iter_mut().enumerate() {
+        *x = word(b, at + 4 * i);
     }
     w
 }
@@ -37,11 +34,9 @@ pub fn blocks(h: [u32; 5], b: &[u8], n: usize) -> [u32; 5]
     ensures { result ≡ blocks_of n h b.now }
 {
     let mut s = h;
-    let mut i: usize = 0;
-    while i < n {
+    for i in 0..n {
         let u = compress(s, block(b, 64 * i));
         s = u;
-        i += 1;
     }
     s
 }
@@ -51,16 +46,12 @@ fn put(buf: &mut [u8], k: usize, s: &[u8])
     requires { k + length s.now ≤ length buf.old }
     ensures { buf.new ≡ paste buf.old k s.now (length s.now) }
 {
-    let mut i: usize = 0;
-    while i < s.len() {
-        buf[k + i] = s[i];
-        i += 1;
-    }
+    buf[k..k + s.len()].copy_from_slice(s);
 }
 
 // Writes what is left of a message, in two parts, and its padding into 128 zeros, and tells how many blocks they are, one or two. The byte 0x80 and the
 // length take nine bytes, so up to 119 fit.
-fn close(end: &mut [u8], left: &[u8], tail: &[u8], bits: u64) -> usize
+fn close(end: &mut [u8; 128], left: &[u8], tail: &[u8], bits: u64) -> usize
     requires { (end.old ≡ replicate 128 0) × (length left.now + length tail.now < 120) }
     ensures count { 64 * result ≡ length (closed_of (left.now ++ tail.now) bits) }
     ensures bytes { end.new ≡ closed_of (left.now ++ tail.now) bits ++ replicate (128 - 64 * result) 0 }

@@ -1,23 +1,15 @@
-// The functions and constants of SHA-1 on words (FIPS 180-4, 3.2, 4.1.1 and 4.2.1). Steps come in four stages of twenty, 0 to 3.
+// The functions and constants of SHA-1 on words (FIPS 180-4, 4.1.1 and 4.2.1).
 ghost use Rattle.std.specs.Prelude.{◌≡◌, ℕ, ◌/◌};
-ghost use Rattle.sha1_words.specs.Words.{rotl, ch_of, parity_of, maj_of, f_of, k_of};
+ghost use Rattle.sha1_words.specs.Words.{ch_of, parity_of, maj_of, f_of, k_of};
+ghost use Rattle.sha1_words.specs.Stages.{stage_number};
 
-pub fn rotl1(x: u32) -> u32
-    ensures { result ≡ rotl 1 x }
-{
-    (x << 1) | (x >> 31)
-}
-
-pub fn rotl5(x: u32) -> u32
-    ensures { result ≡ rotl 5 x }
-{
-    (x << 5) | (x >> 27)
-}
-
-pub fn rotl30(x: u32) -> u32
-    ensures { result ≡ rotl 30 x }
-{
-    (x << 30) | (x >> 2)
+// The stages of twenty steps by which f_t and K_t go: steps 0 to 19, 20 to 39, 40 to 59 and 60 to 79.
+#[derive(Clone, Copy)]
+pub enum Stage {
+    First,
+    Second,
+    Third,
+    Fourth,
 }
 
 // Ch, in three operations instead of the four of its definition.
@@ -40,26 +32,28 @@ fn maj(x: u32, y: u32, z: u32) -> u32
     (x & y) ^ (z & (x ^ y))
 }
 
-// f_t in the stage of t.
-pub fn f(stage: u8, x: u32, y: u32, z: u32) -> u32
-    ensures { (t : ℕ) → t / 20 ≡ stage → result ≡ f_of t x y z }
-{
-    match stage {
-        0 => ch(x, y, z),
-        1 => parity(x, y, z),
-        2 => maj(x, y, z),
-        _ => parity(x, y, z),
+impl Stage {
+    // f_t in the stage of t.
+    pub fn f(self, x: u32, y: u32, z: u32) -> u32
+        ensures { (t : ℕ) → t / 20 ≡ stage_number self → result ≡ f_of t x y z }
+    {
+        match self {
+            Stage::First => ch(x, y, z),
+            Stage::Second => parity(x, y, z),
+            Stage::Third => maj(x, y, z),
+            Stage::Fourth => parity(x, y, z),
+        }
     }
-}
 
-// K_t in the stage of t.
-pub fn k(stage: u8) -> u32
-    ensures { (t : ℕ) → t / 20 ≡ stage → result ≡ k_of t }
-{
-    match stage {
-        0 => 0x5a827999,
-        1 => 0x6ed9eba1,
-        2 => 0x8f1bbcdc,
-        _ => 0xca62c1d6,
+    // K_t in the stage of t.
+    pub fn k(self) -> u32
+        ensures { (t : ℕ) → t / 20 ≡ stage_number self → result ≡ k_of t }
+    {
+        match self {
+            Stage::First => 0x5a827999,
+            Stage::Second => 0x6ed9eba1,
+            Stage::Third => 0x8f1bbcdc,
+            Stage::Fourth => 0xca62c1d6,
+        }
     }
 }

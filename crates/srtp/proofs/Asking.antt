@@ -1,4 +1,6 @@
 -- Finding any 32-bit id: one above 255 is no element's.
+use Rattle.std.specs.Prelude.{Err}
+use Rattle.bits.specs.declared.refusal.Refusal.TheVariants as refusal
 use mathlib.Core.Path.{◌≡◌, refl, sym, ◌∙◌}
 use mathlib.Core.Bool.{Bool, true, false}
 use mathlib.Core.List.{List}
@@ -10,14 +12,13 @@ use lib.Dec.{ltb}
 use lib.ListN.{length, get_or, take, drop, length-take, get_or-eq_default}
 use lib.Seq.{get_or-take, get_or-drop}
 use Rattle.bits.specs.Pick.{pick}
-use Rattle.rtp_elements.specs.declared.element.Found.TheVariants.{Past}
 use Rattle.rtp_elements.specs.Elements.{whole_of}
 use Rattle.rtp.specs.Finding.{located_of}
 use Rattle.rtp_claims.proofs.Naming.{located, never-found}
 use Rattle.srtp.specs.Finding.{asked_id}
 
 module _ (tag : ℕ) (block : List ℕ) (bytes : (i : ℕ) → get_or block i 0 < 256) (id : ℕ) where
-  past : (k : ℕ) → whole_of tag block ≡ false → located_of tag block k ≡ Past
+  past : (k : ℕ) → whole_of tag block ≡ false → located_of tag block k ≡ Err refusal.Element
   unfolding located_of
   past k e = rw e
 

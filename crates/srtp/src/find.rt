@@ -3,7 +3,7 @@ ghost use Rattle.std.specs.Prelude.{◌≡◌};
 ghost use Rattle.srtp.specs.Finding.{find_call, asked_id};
 
 use rtp::find::locate;
-use rtp_elements::element::{Found, found_number};
+use rtp_elements::element::found_number;
 use rtp_header::header::{header_number, read_header};
 
 // 0 or the number of a refusal; where in the packet the element's data begins, and how long it is: 0 and 0 with a refusal.
@@ -46,7 +46,7 @@ pub fn find(packet: &[u8], id: u32) -> Part
     let block = layout.block;
     let payload = layout.payload;
     let found = locate(&packet[block..payload], layout.tag, asked_id(id));
-    let Found::At(element) = found else {
+    let Ok(element) = found else {
         return no_part(found_number(found));
     };
     Part {

@@ -3,7 +3,6 @@ ghost use Rattle.std.specs.Prelude.{◌≡◌, ◌≤◌, length};
 ghost use Rattle.session.specs.Memory.{each, size};
 
 use bits::big_endian::write32;
-use policies::uses::policy_number;
 use replay::ring::seen;
 use session::layout::{EACH, FRONT, REPLAY, REPLAY_END, SIZE};
 use session::load::{is_made, load_policy, low};
@@ -118,6 +117,6 @@ pub fn show_state(session: &[u64], line: &[u8], out: &mut [u8]) -> usize {
     }
     let first = session[0];
     let policy = load_policy(first);
-    let at = put_two(out, one_if(is_made(first)), policy_number(policy));
+    let at = put_two(out, one_if(is_made(first)), u64::from(policy));
     put_records(out, at, session)
 }

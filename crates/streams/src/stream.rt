@@ -19,7 +19,6 @@ use records::tracks::commit;
 use rtp_header::header::Layout;
 use session::answer::{Answer, refused};
 use session::load::{ids_of, keys_of, load_policy, load_suite};
-use suites::suite::tag_length;
 
 // The packet of n bytes at the start of the buffer, whose layout is h, protected under an index; its new length.
 fn encrypt_at(session: &[u64], index: u64, buf: &mut [u8], n: usize, h: Layout) -> usize
@@ -83,7 +82,7 @@ pub fn unprotect_stream(
     requires { Ready Receiving session.old buf.old n i index h }
     ensures { Gives (left_by session.old i buf.old (effect_at Receiving session.old i buf.old n)) result buf.new session.new }
 {
-    let t = tag_length(load_suite(session[0]));
+    let t = load_suite(session[0]).tag_length();
     if !decrypt_at(session, index, buf, n, h) {
         return refused(Refusal::Tag);
     }

@@ -2,12 +2,6 @@
 ghost use Rattle.std.specs.Prelude.{◌≡◌, ◌^◌, ◌<◌, ◌≤◌, length};
 ghost use Rattle.tags.specs.Tag.{same_of};
 
-fn wide(x: u8) -> u64
-    ensures { (result ≡ x) × (result ≤ 255) }
-{
-    x as u64
-}
-
 // Whether two tags are equal. Every byte is looked at, wherever the first difference is. The differences are summed: joined by OR, the compiler takes
 // them apart into comparisons that stop at the first (tests/tag_time).
 pub fn same(a: &[u8], b: &[u8]) -> bool
@@ -18,10 +12,8 @@ pub fn same(a: &[u8], b: &[u8]) -> bool
         return false;
     }
     let mut sum: u64 = 0;
-    let mut i: usize = 0;
-    while i < a.len() {
-        sum += wide(a[i] ^ b[i]);
-        i += 1;
+    for (x, y) in a.iter().zip(b) {
+        sum += u64::from(*x ^ *y);
     }
     sum == 0
 }

@@ -3,16 +3,19 @@ use Rattle.rtp_header.specs.declared.header.Layout.{Layout}
 use Rattle.bits.specs.declared.refusal.Refusal.{Refusal}
 use Rattle.std.specs.Prelude.{Result, Ok, Err}
 use mathlib.Core.Path.{◌≡◌, refl}
-use mathlib.Core.Bool.{true}
+use mathlib.Core.Bool.{Bool, true, false}
 use mathlib.Core.List.{List, [], ◌∷◌}
 use Prim.Native.Nat.{ℕ, ◌≤◌}
 use borrow.Author.Tests.{eq-eqb, le-ltb}
+use lib.Dec.{eqb}
 use lib.ListN.{length, take}
 use Rattle.bits.specs.Refusals.{number_of}
+use Rattle.bits.specs.Pick.{pick}
+use Rattle.bits.specs.declared.refusal.Refusal.TheVariants as refusal
+use Rattle.rtp_elements.specs.Elements.{whole_of, elements_of}
 use Rattle.rtp_elements.specs.Mask.{among}
-use Rattle.rtp_elements.specs.declared.element.Found.{Found as Located}
-use Rattle.rtp_elements.specs.declared.element.Found.TheVariants.{At, Absent as NotThere, Past}
-use Rattle.rtp.specs.Finding.{located_of, Part, part_of, found_in, find_of}
+use Rattle.rtp_elements.specs.declared.element.Element.{Element}
+use Rattle.rtp.specs.Finding.{first_with, located_of, Part, part_of, found_in, find_of}
 use Rattle.rtp_header.specs.Header.{block_of, header_of, ssrc_of}
 use Rattle.policies.specs.declared.policy.Way.{Way}
 use Rattle.policies.specs.declared.policy.Way.TheVariants.{Sending, Receiving}
@@ -90,14 +93,28 @@ record Finds (p : Part) : Type 0 where
   number : among (0 ∷ 2 ∷ 3 ∷ 4 ∷ 6 ∷ 19 ∷ []) p.number ≡ true
   none : (p.number ≡ 0 → ⊥) → p.length ≡ 0
 
-part-finds : (block : ℕ) (f : Located) → Finds (part_of block f)
-part-finds block (At e) = record { number = refl; none = λ z. absurd (z refl) }
-part-finds block NotThere = record { number = refl; none = λ z. refl }
-part-finds block Past = record { number = refl; none = λ z. refl }
+first-finds : (block id : ℕ) (es : List Element) → Finds (part_of block (first_with id es))
+first-finds block id [] = record { number = refl; none = λ z. refl }
+first-finds block id (e ∷ es) = by-match (eqb e.id id) (first-finds block id es)
+  where
+    by-match : (t : Bool) → Finds (part_of block (first_with id es)) → Finds (part_of block (pick t (Ok e) (first_with id es)))
+    by-match true h = record { number = refl; none = λ z. absurd (z refl) }
+    by-match false h = h
+
+located-finds : (begin tag : ℕ) (block : List ℕ) (id : ℕ) → Finds (part_of begin (located_of tag block id))
+unfolding located_of
+located-finds begin tag block id = by-whole (whole_of tag block) (first-finds begin id (elements_of tag block))
+  where
+    found : Result Element Refusal
+    found = first_with id (elements_of tag block)
+
+    by-whole : (w : Bool) → Finds (part_of begin found) → Finds (part_of begin (pick w found (Err refusal.Element)))
+    by-whole true h = h
+    by-whole false h = record { number = refl; none = λ z. refl }
 
 in-finds : (p : List ℕ) (id : ℕ) (h : Result Layout Refusal) → HeaderIn (2 ∷ 3 ∷ 4 ∷ []) h → Finds (found_in p id h)
 in-finds p id (Err r) e = record { number = widen (2 ∷ 3 ∷ 4 ∷ []) (0 ∷ 2 ∷ 3 ∷ 4 ∷ 6 ∷ 19 ∷ []) refl (number_of r) e; none = λ z. refl }
-in-finds p id (Ok h) e = part-finds h.block (located_of h.tag (block_of h p) id)
+in-finds p id (Ok h) e = located-finds h.block h.tag (block_of h p) id
 
 finds : (p : List ℕ) (id : ℕ) → Finds (find_of p id)
 unfolding find_of

@@ -7,11 +7,10 @@ use Rattle.aes_begin.proofs.begin.begin.Goals as goal
 
 pub returns : goal.returns
 returns c =
-    let g = c in
-    let w = g in
+    let w = c.whole_columns.ensures in
     record {
-      first = w.first_columns-first.ensures;
-      column2 = ap (λ (x : List (List ℕ)). get_or x 0 []) w.whole_columns-whole.ensures;
-      column3 = ap (λ (x : List (List ℕ)). get_or x 1 []) w.whole_columns-whole.ensures;
-      second = g.second_columns-second.ensures;
+      first = c.first_columns-first.ensures;
+      column2 = ap (λ (x : List (List ℕ)). get_or x 0 []) w;
+      column3 = ap (λ (x : List (List ℕ)). get_or x 1 []) w;
+      second = c.second_columns-second.ensures;
     }

@@ -1,35 +1,23 @@
 -- `aes_cm::portion::xor_portion` meets its contract: the portion by the blocks of its key and its first counter block.
-use mathlib.Core.Path.{ap, ◌∙◌}
+use mathlib.Core.Path.{◌≡◌, ap, ◌∙◌}
 use Prim.Native.Nat.{◌+◌}
 use native.Mathlib.Nat.{zero-add}
 use native.Mathlib.Omega.{arith}
-use Rattle.aes.specs.Blocks.{byte_from, Lent}
-use Rattle.aes.proofs.Borders.{lent, lent-start}
+use Rattle.bits.specs.Portion.{Bounds}
+use Rattle.aes.specs.Blocks.{byte_from}
 use Rattle.aes_counter.specs.Keystream.{keystream_of}
 use Rattle.aes_cm.proofs.Streams.{portion-is}
 use Rattle.aes_cm.proofs.portion.xor_portion.Goals as goal
 
-pub packet_start-start-requires : goal.packet_start-start-requires
-packet_start-start-requires c =
-    let lends : Lent c.args.sbox.now c.args.table.now c.round_keys-keys.result c.args.key =
-    let p = c.requires.sbox_table in
-    lent _ _ c.round_keys-keys.result c.args.key p.0 p.1 c.round_keys-keys.ensures in
-    lends
-
-pub xor_from-requires : goal.xor_from-requires
-xor_from-requires c =
-    let lends : Lent c.args.sbox.now c.args.table.now c.round_keys-keys.result c.args.key =
-    let p = c.requires.sbox_table in
-    lent _ _ c.round_keys-keys.result c.args.key p.0 p.1 c.round_keys-keys.ensures in
-    let e = c.packet_start-start.ensures.key_value in
-    let p = c.requires.first_le_stop in
-    record { lent = lent-start _ _ _ _ c.packet_start-start.result e.0 lends; started = e.1; first_le_stop = (p.0, (p.1.0, (p.1.1.0, omega (arith, p.1.1.1)))) }
-
 pub returns : goal.returns
 returns c =
     let a = c.args in
-    let p = c.requires.first_le_stop in
-    let start = c.packet_start-start.result in
-    let made = byte_from start.key start.block in
-    portion-is (λ k. made (0 + k)) (keystream_of a.key a.salt a.ssrc a.index) a.first a.stop a.rest a.buf.now c.xor_from.new.buf p.0 p.1.0
-    (λ k h. ap made (zero-add k) ∙ c.packet_start-start.ensures.by_index k (omega (arith, h, p.1.1.1))) c.xor_from.ensures
+    let p = a.portion in
+    let blocks = c.packet_start-blocks in
+    let made = byte_from blocks.result.cipher.key blocks.result.block in
+    let first : c.portion.inside.first ≡ p.first = ap (λ (b : Bounds). b.first) c.portion.view_is in
+    let stop : c.portion.inside.stop ≡ p.stop = ap (λ (b : Bounds). b.stop) c.portion.view_is in
+    let rest : c.portion.inside.rest ≡ p.rest = ap (λ (b : Bounds). b.rest) c.portion.view_is in
+    let v = c.portion.invariant in
+    portion-is (λ k. made (0 + k)) (keystream_of a.key a.salt a.ssrc a.index) p.first p.stop p.rest a.buf.now c.xor_from.new.buf (omega (arith, v.0)) (omega (arith, v.1))
+    (λ k h. ap made (zero-add k) ∙ blocks.ensures.by_index k (omega (arith, h, c.requires.rest_le_length.1))) c.xor_from.ensures

@@ -6,13 +6,8 @@ use Rattle.aes_columns.proofs.column.round_column.Goals as goal
 
 pub returns : goal.returns
 returns c =
-    let z = c in
-    let y = z in
-    let w = y in
-    let p = w in
-    let x = p in
-    let a = x.args in
+    let a = c.args in
     c.unpack.ensures
-    ∙ mixed x.row0.result y.row1.result z.row2.result w.row3.result p.pack.result
+    ∙ mixed c.row.result c.row-3.result c.row-4.result c.row-2.result c.pack.result
     (sbox_of a.a) (sbox_of a.b) (sbox_of a.c) (sbox_of a.d) a.k
-    x.row0.ensures y.row1.ensures z.row2.ensures w.row3.ensures p.pack.ensures
+    c.row.ensures c.row-3.ensures c.row-4.ensures c.row-2.ensures c.pack.ensures

@@ -11,9 +11,8 @@ use Rattle.aes_counter.proofs.counter.iv.Goals as goal
 
 pub returns : goal.returns
 returns c =
-    let fourteen : length c.args.salt ≡ 14 = search rules in
-    let byte : (k : ℕ) → Fits w8 (get_or c.args.salt k 0) = λ k. search rules in
-    let q = c in
-    let s = q in
-    iv-is s.args.salt q.write32-q.result c.write64-i.result s.args.ssrc s.args.index (fourteen) (are-bytes s.args.salt (λ k. (byte k).fits))
-    s.ranges.ssrc.fits s.ranges.index.fits q.write32-q.ensures c.write64-i.ensures
+    let a = c.args in
+    let fourteen : length a.salt ≡ 14 = search rules in
+    let byte : (k : ℕ) → Fits w8 (get_or a.salt k 0) = λ k. search rules in
+    iv-is a.salt c.write32-q.result c.write64-i.result a.ssrc a.index fourteen (are-bytes a.salt (λ k. (byte k).fits))
+    c.ranges.ssrc.fits c.ranges.index.fits c.write32-q.ensures c.write64-i.ensures

@@ -11,17 +11,13 @@ use Rattle.aes.specs.Blocks.{byte_from}
 use Rattle.aes_counter.proofs.Counters.{byte-is}
 use Rattle.aes_counter.proofs.start.packet_start.Goals as goal
 
-pub start_at-requires : goal.start_at-requires
-start_at-requires c = c.requires
-
 pub returns : goal.returns
 returns c =
-    let fourteen : length c.args.salt ≡ 14 = search rules in
-    let byte : (k : ℕ) → Fits w8 (get_or c.args.salt k 0) = λ k. search rules in
-    let s = c in
-    let a = s.args in
+    let a = c.args in
+    let fourteen : length a.salt ≡ 14 = search rules in
+    let byte : (k : ℕ) → Fits w8 (get_or a.salt k 0) = λ k. search rules in
     let e = c.start_at.ensures in record {
-      key_value = (e.0, e.1.1);
-      by_index = λ k h. ap₂ (λ (x y : List ℕ). byte_from x y k) e.0 (e.1.0 ∙ c.iv.ensures)
-          ∙ byte-is a.key a.salt a.ssrc a.index (fourteen) (are-bytes a.salt (λ n. (byte n).fits)) s.ranges.ssrc.fits s.ranges.index.fits k h;
+      key_value = e.0;
+      by_index = λ k h. ap₂ (λ (x y : List ℕ). byte_from x y k) e.0 (e.1 ∙ c.iv.ensures)
+          ∙ byte-is a.cipher.key a.salt a.ssrc a.index fourteen (are-bytes a.salt (λ n. (byte n).fits)) c.ranges.ssrc.fits c.ranges.index.fits k h;
     }

@@ -4,14 +4,7 @@ use Rattle.aes_shared.proofs.columns.first_columns.Goals as goal
 
 pub returns : goal.returns
 returns c =
-    let q3 = c in
-    let q1 = q3 in
-    let q0 = q1 in
-    let p = q0 in
-    let p2 = p in
-    let p1 = p2 in
-    let p0 = p1 in
     record {
-      column0 = three-and p0.row0.result p1.row1.result p.pack.result _ _ _ p0.row0.ensures p1.row1.ensures p.pack.ensures p2.row2.result _ p2.row2.ensures;
-      column1 = three-and q0.row0-2.result q1.row1-2.result c.pack-2.result _ _ _ q0.row0-2.ensures q1.row1-2.ensures c.pack-2.ensures q3.row3.result _ q3.row3.ensures;
+      column0 = three-and c.row.result c.row-2.result c.pack.result _ _ _ c.row.ensures c.row-2.ensures c.pack.ensures c.row-3.result _ c.row-3.ensures;
+      column1 = three-and c.row-4.result c.row-5.result c.pack-2.result _ _ _ c.row-4.ensures c.row-5.ensures c.pack-2.ensures c.row-6.result _ c.row-6.ensures;
     }

@@ -9,7 +9,5 @@ use Rattle.aes_shared.proofs.columns.whole_columns.Goals as goal
 
 pub returns : goal.returns
 returns c =
-    let d = c in
-    let a = d.args in
-    let e = sym (round_is a.s a.k) in
-    cons2 (d.round_column.ensures ∙ ap (λ (x : List (List ℕ)). get_or x 2 []) e) (c.round_column-2.ensures ∙ ap (λ (x : List (List ℕ)). get_or x 3 []) e)
+    let e = sym (round_is c.args.s c.args.k) in
+    cons2 (c.round_column.ensures ∙ ap (λ (x : List (List ℕ)). get_or x 2 []) e) (c.round_column-2.ensures ∙ ap (λ (x : List (List ℕ)). get_or x 3 []) e)

@@ -1,16 +1,12 @@
 -- `block_xor::part::xor_word` meets its contract.
 use mathlib.Core.Path.{◌∙◌}
 use Prim.Native.Nat.{ℕ}
-use native.Mathlib.Omega.{arith}
 use mir.Syntax.{w8}
 use mir.Val.{Fits}
 use borrow.Author.Rules.{rules}
-use lib.ListN.{get_or, length-set}
+use lib.ListN.{get_or}
 use Rattle.block_xor.proofs.Columns.{stored, summed}
 use Rattle.block_xor.proofs.part.xor_word.Goals as goal
-
-pub bounds-part-3-2 : goal.bounds-part-3-2
-bounds-part-3-2 c = simp length-set (omega (arith, c.requires.0))
 
 pub returns : goal.returns
 returns c =
@@ -18,6 +14,6 @@ returns c =
     let block = c.args.block in
     let fp : (i : ℕ) → Fits w8 (get_or part i 0) = λ i. search rules in
     let fb : (i : ℕ) → Fits w8 (get_or block i 0) = λ i. search rules in
-    stored part c.write32-b.result c.requires.0 (search rules)
-    ∙ summed part block c.write32-b.result c.args.from c.read32.result c.read32-2.result
-    c.requires.0 (λ i. (fp i).fits) (λ i. (fb i).fits) c.read32.ensures c.read32-2.ensures c.write32-b.ensures
+    stored part c.write32-sum.result c.requires.0 (search rules)
+    ∙ summed part block c.array.result c.write32-sum.result c.args.from c.read32.result c.read32-word.result c.requires.0 (search rules) (λ i. (fp i).fits) (λ i. (fb i).fits)
+    c.array.ensures (search rules) c.read32-word.ensures c.write32-sum.ensures

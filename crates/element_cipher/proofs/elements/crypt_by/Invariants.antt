@@ -7,9 +7,9 @@ use Rattle.rtp_elements.specs.Mask.{listed_in}
 use Rattle.element_cipher.proofs.Masking.{Masking}
 use Rattle.element_cipher.proofs.elements.crypt_by.Given as goal
 
-abbrev pub invariant-loop-i : goal.invariant-loop-i
-invariant-loop-i l =
+abbrev pub invariant-loop-element : goal.invariant-loop-element
+invariant-loop-element l =
     Masking (listed_in l.listed) l.tag (byte_from l.start.key l.start.block) l.initial.block l.block l.i × ((l.s.at ≤ l.i) × Holds l.start.key l.start.block l.s)
 
-abbrev pub decreases-loop-i : goal.decreases-loop-i
-decreases-loop-i l = length l.initial.block - l.i
+abbrev pub decreases-loop-element : goal.decreases-loop-element
+decreases-loop-element l = length l.initial.block - l.i

@@ -1,7 +1,5 @@
 -- `gcm::counter::start` meets its contract.
-use mathlib.Core.Path.{◌≡◌, ◌∙◌}
-use borrow.Author.Rules.{rules}
-use lib.ListN.{length}
+use Rattle.std.proofs.Common.{◌≡◌, length, ◌∙◌, rules}
 use Rattle.gcm.proofs.Counters.{base-is}
 use Rattle.gcm.proofs.counter.start.Goals as goal
 
@@ -9,4 +7,4 @@ pub returns : goal.returns
 returns c =
     let twelve : length c.args.iv ≡ 12 = search rules in
     let e = c.start_at.ensures in
-    (e.0, (e.1.0 ∙ base-is c.args.iv twelve, e.1.1))
+    (e.0, e.1 ∙ base-is c.args.iv twelve)

@@ -6,4 +6,5 @@ use Rattle.gcm.proofs.tag.tag.Goals as goal
 pub returns : goal.returns
 returns c =
     let a = c.args in
-    tagged a.key a.iv a.subkey c.hash.result c.hidden.result (outside_of a.first a.stop a.rest a.buf.now) (inside_of a.first a.stop a.rest a.buf.now) c.hash.ensures c.hidden.ensures
+    let p = a.portion in
+    tagged a.key a.iv a.subkey c.hash.result c.hidden.result (outside_of p.first p.stop p.rest a.buf.now) (inside_of p.first p.stop p.rest a.buf.now) c.hash.ensures c.hidden.ensures

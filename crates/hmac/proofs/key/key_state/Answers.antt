@@ -7,4 +7,4 @@ use Rattle.hmac.proofs.key.key_state.Goals as goal
 pub returns : goal.returns
 unfolding state_of
 returns c =
-    c.blocks-2.ensures ∙ ap₂ (blocks_of 1) c.start.ensures c.key_block-b.ensures
+    c.blocks-2.ensures ∙ ap₂ (blocks_of 1) c.start.ensures c.key_block.ensures

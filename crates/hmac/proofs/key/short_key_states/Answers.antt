@@ -6,4 +6,4 @@ use Rattle.hmac.proofs.key.short_key_states.Goals as goal
 
 pub returns : goal.returns
 returns c =
-    ap₂ (λ (i o : List ℕ). record { inner = i; outer = o }) c.key_state-i.ensures c.key_state-o.ensures
+    ap₂ (λ (i o : List ℕ). record { inner = i; outer = o }) c.key_state-inner.ensures c.key_state-outer.ensures

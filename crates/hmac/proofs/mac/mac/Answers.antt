@@ -15,6 +15,6 @@ returns c =
     c.digest.ensures
     ∙ ap digest_of
     (c.compress-e.ensures
-    ∙ ap (compress_of states.outer) c.last_block-w.ensures
+    ∙ ap (compress_of states.outer) c.last_block.ensures
     ∙ sym (last-hash states.outer c.finish-h.result)
     ∙ ap (λ (u : List ℕ). hash_from 64 states.outer (digest_of u)) c.finish-h.ensures)

@@ -10,10 +10,7 @@ pub returns-then-is_large : goal.returns-then-is_large
 returns-then-is_large c =
     let a = c.args in
     let e = refused (keystream_of a.key a.salt a.ssrc a.index) a.start a.buf.now (large a.start (length a.buf.now) (sym c.is_large.ensures ∙ c.if-is_large.true)) in
-    (c.number.ensures ∙ sym (ap (λ (s : Stretched). s.number) e), sym (ap (λ (s : Stretched). s.bytes) e))
-
-pub stretch_within-requires : goal.stretch_within-requires
-stretch_within-requires c = sym c.is_large.ensures ∙ c.if-is_large.false
+    (sym (ap (λ (s : Stretched). s.number) e), sym (ap (λ (s : Stretched). s.bytes) e))
 
 pub returns : goal.returns
 returns c =

@@ -25,20 +25,20 @@ pub returns-in_default-found : goal.returns-in_default-found
 returns-in_default-found c =
     let packet = c.args.packet in
     let f = c.locate-found.result in
-    handed packet _ _ _ _ (read packet.now _ _ f (sym c.read_header-header.ensures.value ∙ c.in-Ok.is) c.locate-found.ensures.value ∙ refused-part f _ c.in_default-found.not-At) c.found_number.ensures (omega arith) refl refl (omega arith)
+    handed packet _ _ _ _ (read packet.now _ _ f (sym c.read_header-header.ensures.value ∙ c.in-Ok.is) c.locate-found.ensures.value ∙ refused-part f _ c.in_default-found.not-Ok) c.found_number.ensures (omega arith) refl refl (omega arith)
 
 pub overflow_add-begin : goal.overflow_add-begin
-overflow_add-begin c = omega (arith, inside-packet c.args.packet.now c.in-Ok.layout _ _ (rw c.in-Ok.is at c.read_header-header.ensures.ordered) c.locate-found.ensures.inside c.in-At.is)
+overflow_add-begin c = omega (arith, inside-packet c.args.packet.now c.in-Ok.layout _ _ (rw c.in-Ok.is at c.read_header-header.ensures.ordered) c.locate-found.ensures.inside c.in-Ok-found.is)
 
 pub overflow_add-result : goal.overflow_add-result
-overflow_add-result c = omega (arith, inside-packet c.args.packet.now c.in-Ok.layout _ _ (rw c.in-Ok.is at c.read_header-header.ensures.ordered) c.locate-found.ensures.inside c.in-At.is)
+overflow_add-result c = omega (arith, inside-packet c.args.packet.now c.in-Ok.layout _ _ (rw c.in-Ok.is at c.read_header-header.ensures.ordered) c.locate-found.ensures.inside c.in-Ok-found.is)
 
 pub slice_bounds-result-end-2 : goal.slice_bounds-result-end-2
-slice_bounds-result-end-2 c = omega (arith, inside-packet c.args.packet.now c.in-Ok.layout _ _ (rw c.in-Ok.is at c.read_header-header.ensures.ordered) c.locate-found.ensures.inside c.in-At.is)
+slice_bounds-result-end-2 c = omega (arith, inside-packet c.args.packet.now c.in-Ok.layout _ _ (rw c.in-Ok.is at c.read_header-header.ensures.ordered) c.locate-found.ensures.inside c.in-Ok-found.is)
 
 pub returns : goal.returns
 returns c =
     let packet = c.args.packet in
     handed packet _ _ _ _
-    (read packet.now _ _ _ (sym c.read_header-header.ensures.value ∙ c.in-Ok.is) (sym c.in-At.is ∙ c.locate-found.ensures.value))
-    refl (inside-packet c.args.packet.now c.in-Ok.layout _ _ (rw c.in-Ok.is at c.read_header-header.ensures.ordered) c.locate-found.ensures.inside c.in-At.is) (rw (add-sub_cancel_left _ _)) refl (omega arith)
+    (read packet.now _ _ _ (sym c.read_header-header.ensures.value ∙ c.in-Ok.is) (sym c.in-Ok-found.is ∙ c.locate-found.ensures.value))
+    refl (inside-packet c.args.packet.now c.in-Ok.layout _ _ (rw c.in-Ok.is at c.read_header-header.ensures.ordered) c.locate-found.ensures.inside c.in-Ok-found.is) (rw (add-sub_cancel_left _ _)) refl (omega arith)

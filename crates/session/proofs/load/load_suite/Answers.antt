@@ -7,7 +7,7 @@ pub overflow_sub-first : goal.overflow_sub-first
 overflow_sub-first c = mark-below c.args.first (sym c.is_made.ensures ∙ c.if-is_made.true)
 
 pub returns-then-is_made : goal.returns-then-is_made
-returns-then-is_made c = c.suite_of.ensures ∙ sym (suite-made c.args.first (sym c.is_made.ensures ∙ c.if-is_made.true))
+returns-then-is_made c = c.from.ensures ∙ sym (suite-made c.args.first (sym c.is_made.ensures ∙ c.if-is_made.true))
 
 pub returns : goal.returns
 returns c = sym (suite-unmade c.args.first (sym c.is_made.ensures ∙ c.if-is_made.false))

@@ -41,4 +41,4 @@ returns c =
     (then (place_in setup_layout the_ids) (came-back (place_in setup_layout the_ids) (place_in setup_layout the_cipher) c.with_two-words-2.result c.copy.new.to (omega (arith, ap length c.copy.ensures))) c.copy.ensures
     (then (place_in setup_layout the_salt) c.with_two-words-2.ensures c.halves14.ensures.value
     (then (place_in setup_layout the_key) c.with_two-words.ensures c.halves16.ensures.value
-    (then (place_in setup_layout the_mark) {before = replicate front 0} (stored (replicate front 0) 0 (mark + (a.policy + 4 * c.suite_number.result)) (omega arith)) (ap₂ (λ (p q : ℕ). (mark + (p + 4 * q)) ∷ []) (sym (policy-number a.policy c.requires)) c.suite_number.ensures.0) refl)))))))))))
+    (then (place_in setup_layout the_mark) {before = replicate front 0} (stored (replicate front 0) 0 (mark + (a.policy + 4 * c.from.result)) (omega arith)) (ap₂ (λ (p q : ℕ). (mark + (p + 4 * q)) ∷ []) (sym (policy-number a.policy c.requires)) c.from.ensures.0) refl)))))))))))

@@ -12,4 +12,4 @@ returns c =
     let eb = c.twenty-b.ensures h m words (omega arith) ea in
     let eg = c.twenty-c.ensures h m words (omega arith) eb in
     let ed = c.four-d.ensures h m 60 words (omega arith) (omega arith) (omega arith) eg in
-    compressed h m c.sum.result c.last-u.result (c.last-u.ensures h m words ed) c.sum.ensures
+    compressed h m c.sum.result c.last.result (c.last.ensures h m words ed) c.sum.ensures

@@ -6,4 +6,4 @@ use Rattle.sha1_compress.proofs.compress.shift.Goals as goal
 pub returns : goal.returns
 returns c =
     let sixteen : length c.args.w ≡ 16 = search rules in
-    shifted c.args.w c.rotl1-x.result (sixteen) c.rotl1-x.ensures
+    shifted c.args.w c.rotate_left-x.result (sixteen) c.rotate_left-x.ensures

@@ -1,10 +1,7 @@
+-- `sha1_message::message::blocks`: the hash value after the blocks taken.
+use Rattle.std.proofs.Common.{◌≡◌}
 use Rattle.sha1_compress.specs.Hash.{blocks_of}
-use mathlib.Core.Path.{◌≡◌}
-use Prim.Native.Nat.{◌≤◌, ◌-◌}
 use Rattle.sha1_message.proofs.message.blocks.Given as goal
 
 abbrev pub invariant-loop-i : goal.invariant-loop-i
-invariant-loop-i l = (l.i ≤ l.n) × (l.s ≡ blocks_of l.i l.initial.s l.b)
-
-abbrev pub decreases-loop-i : goal.decreases-loop-i
-decreases-loop-i l = l.n - l.i
+invariant-loop-i l = l.s ≡ blocks_of l.i l.initial.s l.b

@@ -9,21 +9,6 @@ use Rattle.sha1_compress.proofs.Padding.{one_block, two_blocks, closed, closed-l
 use Rattle.sha1_message.proofs.message.close.Goals as goal
 use Rattle.sha1_message.proofs.message.close.Goals.{then-fits, else-fits}
 
-pub put-requires : goal.put-requires
-put-requires c =
-    let size : length c.args.end.now ≡ 128 = ap length c.requires.0 in
-    omega (arith, size)
-
-pub put-requires-2 : goal.put-requires-2
-put-requires-2 c =
-    let size : length c.args.end.now ≡ 128 = ap length c.requires.0 in
-    omega (arith, size)
-
-pub bounds-end-m : goal.bounds-end-m
-bounds-end-m c =
-    let size : length c.args.end.now ≡ 128 = ap length c.requires.0 in
-    omega (arith, size)
-
 pub returns : goal.returns
 returns c =
     let g = c.args in

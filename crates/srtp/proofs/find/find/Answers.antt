@@ -42,17 +42,17 @@ returns-in_default-found c =
     let f = c.locate-found.result in
     c.no_part-in_default-found.ensures
     ∙ ap (λ (k : ℕ). record { number = k; begin = 0; length = 0 }) c.found_number.ensures
-    ∙ sym (ap found (read p id c.in-Ok.layout f (sym c.read_header-header.ensures.value ∙ c.in-Ok.is) (c.locate-found.ensures.value ∙ ap (located_of _ _) c.asked_id.ensures ∙ asked _ _ bytes id) ∙ refused-part f _ c.in_default-found.not-At))
+    ∙ sym (ap found (read p id c.in-Ok.layout f (sym c.read_header-header.ensures.value ∙ c.in-Ok.is) (c.locate-found.ensures.value ∙ ap (located_of _ _) c.asked_id.ensures ∙ asked _ _ bytes id) ∙ refused-part f _ c.in_default-found.not-Ok))
 
 pub overflow_add-result : goal.overflow_add-result
 overflow_add-result c =
     let p = c.args.packet.now in
     let id = c.args.id in
-    omega (arith, inside-packet p c.in-Ok.layout _ _ (rw c.in-Ok.is at c.read_header-header.ensures.ordered) c.locate-found.ensures.inside c.in-At.is)
+    omega (arith, inside-packet p c.in-Ok.layout _ _ (rw c.in-Ok.is at c.read_header-header.ensures.ordered) c.locate-found.ensures.inside c.in-Ok-found.is)
 
 pub returns : goal.returns
 returns c =
     let p = c.args.packet.now in
     let id = c.args.id in
     let bytes = part_bytes c.in-Ok.layout.block (c.in-Ok.layout.payload - c.in-Ok.layout.block) p (λ k. (c.shared_slice_known-1.given k).fits) in
-    sym (ap found (read p id c.in-Ok.layout _ (sym c.read_header-header.ensures.value ∙ c.in-Ok.is) (sym c.in-At.is ∙ (c.locate-found.ensures.value ∙ ap (located_of _ _) c.asked_id.ensures ∙ asked _ _ bytes id))))
+    sym (ap found (read p id c.in-Ok.layout _ (sym c.read_header-header.ensures.value ∙ c.in-Ok.is) (sym c.in-Ok-found.is ∙ (c.locate-found.ensures.value ∙ ap (located_of _ _) c.asked_id.ensures ∙ asked _ _ bytes id))))

@@ -1,9 +1,0 @@
--- `ghash::hash::start` meets its contract.
-use mathlib.Core.Path.{refl}
-use Rattle.ghash.specs.Steps.{feed_of}
-use Rattle.ghash.proofs.hash.start.Goals as goal
-
-pub returns : goal.returns
-unfolding feed_of
-returns c =
-    record { at_value = refl; by_index = λ h. record { value = refl; at = refl; bytes = tt } }

@@ -1,0 +1,8 @@
+-- `ghash::state::Hash::start` meets its contract.
+use Rattle.std.proofs.Common.{refl}
+use Rattle.ghash.specs.Steps.{feed_of}
+use Rattle.ghash.proofs.state.Hash.start.Goals as goal
+
+pub returns : goal.returns
+unfolding feed_of
+returns c = λ h. record { value = refl; begun = refl; bytes = tt }

@@ -1,0 +1,26 @@
+-- `sha1_words::word::Stage::f` meets its contract, a stage at a time.
+use Rattle.std.proofs.Common.{sym, ap, ◌∙◌}
+use Rattle.sha1_words.specs.Stages.{stage_number}
+use Rattle.sha1_words.specs.Words.{f_of}
+use Rattle.sha1_words.proofs.Stages.{stage0, stage1, stage2, stage3}
+use Rattle.sha1_words.proofs.word.Stage.f.Goals as goal
+
+pub returns-in-First : goal.returns-in-First
+unfolding f_of
+returns-in-First c = λ t e.
+    c.ch.ensures ∙ sym (stage0 t _ _ _ _ (e ∙ ap stage_number c.in-First.is))
+
+pub returns-in-Second : goal.returns-in-Second
+unfolding f_of
+returns-in-Second c = λ t e.
+    c.parity.ensures ∙ sym (stage1 t _ _ _ _ (e ∙ ap stage_number c.in-Second.is))
+
+pub returns-in-Third : goal.returns-in-Third
+unfolding f_of
+returns-in-Third c = λ t e.
+    c.maj.ensures ∙ sym (stage2 t _ _ _ _ (e ∙ ap stage_number c.in-Third.is))
+
+pub returns-in-Fourth : goal.returns-in-Fourth
+unfolding f_of
+returns-in-Fourth c = λ t e.
+    c.parity-in-Fourth.ensures ∙ sym (stage3 t _ _ _ _ (e ∙ ap stage_number c.in-Fourth.is))
