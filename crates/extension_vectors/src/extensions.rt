@@ -23,6 +23,7 @@ const ONE_BYTE: u16 = 0xBEDE;
 pub fn pad(rt: &impl Print, key: &[u8], salt: &[u8]) -> io::Result<()> {
     let keys = derive(padded(key), padded(salt));
     let mut pad = [0; 24];
+    // 24 bytes from the first on are never too many.
     let _ = stretch(
         keys.header_cipher,
         keys.header_salt,
