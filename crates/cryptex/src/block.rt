@@ -3,16 +3,12 @@ ghost use Rattle.std.specs.Prelude.{◌≡◌, ◌++◌, ◌+◌, ◌≤◌, ◌
 ghost use Rattle.policies.specs.Cryptex.{with_block};
 ghost use Rattle.cryptex.specs.Steps.{raised_of};
 
-// The bytes from `at` up to `n` move four places up, the last one first: each is read before another is written over it.
+// The bytes from `at` up to `n` move four places up.
 fn raise(buf: &mut [u8], at: usize, n: usize)
     requires { (at ≤ n) × (n + 4 ≤ length buf.old) }
     ensures { buf.new ≡ raised_of at n buf.old }
 {
-    let mut i = n;
-    while at < i {
-        i -= 1;
-        buf[i + 4] = buf[i];
-    }
+    buf.copy_within(at..n, at + 4);
 }
 
 // A packet of n bytes whose contributing sources end at `at` becomes one of n + 4, with X = 1 and BEDE 0000 after them.
@@ -21,9 +17,6 @@ pub fn add_block(buf: &mut [u8], at: usize, n: usize)
     ensures { buf.new ≡ with_block (take n buf.old) at ++ drop (n + 4) buf.old }
 {
     raise(buf, at, n);
-    buf[at] = 0xBE;
-    buf[at + 1] = 0xDE;
-    buf[at + 2] = 0;
-    buf[at + 3] = 0;
-    buf[0] = buf[0] + 16;
+    buf[at..at + 4].copy_from_slice(&[0xBE, 0xDE, 0, 0]);
+    buf[0] += 16;
 }

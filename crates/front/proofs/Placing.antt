@@ -17,7 +17,7 @@ use Rattle.session.specs.Memory.{record_at, decode}
 use Rattle.session.specs.Places.{place_from}
 use Rattle.session.proofs.Records.{record-at}
 use Rattle.records.specs.Tracks.{record_in, judged_by}
-use Rattle.front.specs.Opening.{shut, stream_of, Placed}
+use Rattle.front.specs.Opening.{stream_of, Placed}
 
 -- ---- the index
 
@@ -36,17 +36,17 @@ module _ (way : Way) (words packet : List ℕ) (h : Layout) (ssrc : ℕ) (is_ssr
   place-so : place_from 0 (decode words).records (ssrc_of packet) way ≡ p
   place-so = ap (λ (x : ℕ). place_from 0 (decode words).records x way) (sym is_ssrc) ∙ sym is_place
 
-  pub no_stream : p ≡ None → shut refusal.Stream ≡ stream_of way words packet h
+  pub no_stream : p ≡ None → Err refusal.Stream ≡ stream_of way words packet h
   no_stream e = rw (place-so, e)
 
   module _ (i : ℕ) (at : p ≡ Some i) (j : Result ℕ Refusal) (seq : ℕ) (is_seq : seq ≡ seq_of packet) (judged : j ≡ judged_by way (record_in words i) seq) where
     judged-so : judged_by way (record_in words i) (seq_of packet) ≡ j
     judged-so = ap (judged_by way (record_in words i)) (sym is_seq) ∙ sym judged
 
-    pub no_index : (r : Refusal) → j ≡ Err r → shut r ≡ stream_of way words packet h
+    pub no_index : (r : Refusal) → j ≡ Err r → Err r ≡ stream_of way words packet h
     no_index r e = rw (place-so, at, judged-so, e)
 
-    pub with-index : (k : ℕ) → j ≡ Ok k → record { number = 0; header = Ok h; place = i; index = k } ≡ stream_of way words packet h
+    pub with-index : (k : ℕ) → j ≡ Ok k → Ok (record { layout = h; place = i; index = k }) ≡ stream_of way words packet h
     with-index k e = rw (place-so, at, judged-so, e)
 
     pub is-placed : (k : ℕ) → j ≡ Ok k → i < 32 → seq < 65536 → Placed way words packet i k

@@ -1,5 +1,5 @@
 // A packet under AEAD_AES_128_GCM.
-ghost use Rattle.std.specs.Prelude.{◌≡◌, Bool, ℕ, ◌^◌, ◌≤◌, ◌<◌, length, take};
+ghost use Rattle.std.specs.Prelude.{◌≡◌, Bool, ℕ, ◌≤◌, length, take, Ok};
 ghost use Rattle.bits.specs.Pick.{pick};
 ghost use Rattle.suites.specs.declared.suite.Suite.TheVariants.{Gcm};
 ghost use Rattle.suites.specs.Suites.{tag_length_of};
@@ -10,66 +10,51 @@ ghost use Rattle.packet_cipher.specs.Tag.{tag_of};
 ghost use Rattle.wire.specs.Wire.{tag_fits};
 ghost use Rattle.wire.specs.Steps.{opened_of};
 
+use bits::arrays::array;
 use gcm::gctr::crypt;
 use gcm::tag::tag;
 use gcm_iv::iv::iv;
 use packet_cipher::cipher::encrypted_portion;
-use packet_cipher::keys::Keys;
-use policies::policy::{Policy, Way};
-use policies::uses::is_cryptex;
+use packet_cipher::context::Context;
+use policies::policy::Way;
 use rtp_header::header::Layout;
 use tags::tag::same;
 
 // The IV of a packet, whose salt is the first twelve bytes.
-fn packet_iv(keys: Keys, ssrc: u32, index: u64) -> [u8; 12]
-    ensures { result ≡ packet_iv keys ssrc index }
+fn packet_iv(context: &Context) -> [u8; 12]
+    ensures { result ≡ packet_iv context.now.keys context.now.ssrc context.now.index }
 {
-    let s = keys.salt;
-    let salt = [
-        s[0], s[1], s[2], s[3], s[4], s[5], s[6], s[7], s[8], s[9], s[10], s[11],
-    ];
-    iv(salt, ssrc, index)
+    iv(
+        array(&context.keys.salt[..12]),
+        context.ssrc,
+        context.index,
+    )
 }
 
 // The packet, whose layout is h, encrypted; its tag.
-pub fn seal_gcm(
-    keys: Keys,
-    policy: Policy,
-    ssrc: u32,
-    index: u64,
-    packet: &mut [u8],
-    h: Layout,
-) -> [u8; 16]
-    requires { (index < 2 ^ 48) × Shaped policy packet.old (length packet.old) h }
-    ensures by_index { (listed : ℕ → Bool) → packet.new ≡ cipher_of Gcm keys policy listed ssrc index packet.old }
-    ensures value { result ≡ tag_of Gcm keys policy ssrc index packet.new }
+pub fn seal_gcm(context: &Context, packet: &mut [u8], h: Layout) -> [u8; 16]
+    requires { Shaped context.now.policy packet.old (length packet.old) h }
+    ensures by_index { (listed : ℕ → Bool) → packet.new ≡ cipher_of Gcm context.now.keys context.now.policy listed context.now.ssrc context.now.index packet.old }
+    ensures value { result ≡ tag_of Gcm context.now.keys context.now.policy context.now.ssrc context.now.index packet.new }
 {
-    let key = keys.cipher;
-    let hash = keys.hash;
-    let r = encrypted_portion(is_cryptex(policy, h), h);
-    let nonce = packet_iv(keys, ssrc, index);
+    let key = context.keys.cipher;
+    let hash = context.keys.hash;
+    let r = encrypted_portion(context.policy.is_cryptex(h), h);
+    let nonce = packet_iv(context);
     crypt(key, nonce, packet, r.first, r.stop, r.rest);
     tag(key, hash, nonce, packet, r.first, r.stop, r.rest)
 }
 
 // Whether the tag of the packet of n bytes is right; then, and only then, the bytes before it are decrypted.
-pub fn open_gcm(
-    keys: Keys,
-    policy: Policy,
-    ssrc: u32,
-    index: u64,
-    buf: &mut [u8],
-    n: usize,
-    h: Layout,
-) -> bool
-    requires { (index < 2 ^ 48) × ((n ≤ length buf.old) × (judged_of Way.Receiving policy (tag_length_of Gcm) (take n buf.old) ≡ Ok h)) }
-    ensures value { result ≡ tag_fits Gcm keys policy ssrc index (take n buf.old) }
-    ensures by_index { (listed : ℕ → Bool) → buf.new ≡ pick result (opened_of Gcm keys policy listed ssrc index n buf.old) buf.old }
+pub fn open_gcm(context: &Context, buf: &mut [u8], n: usize, h: Layout) -> bool
+    requires { (n ≤ length buf.old) × (judged_of Way.Receiving context.now.policy (tag_length_of Gcm) (take n buf.old) ≡ Ok h) }
+    ensures value { result ≡ tag_fits Gcm context.now.keys context.now.policy context.now.ssrc context.now.index (take n buf.old) }
+    ensures by_index { (listed : ℕ → Bool) → buf.new ≡ pick result (opened_of Gcm context.now.keys context.now.policy listed context.now.ssrc context.now.index n buf.old) buf.old }
 {
-    let key = keys.cipher;
-    let hash = keys.hash;
-    let r = encrypted_portion(is_cryptex(policy, h), h);
-    let nonce = packet_iv(keys, ssrc, index);
+    let key = context.keys.cipher;
+    let hash = context.keys.hash;
+    let r = encrypted_portion(context.policy.is_cryptex(h), h);
+    let nonce = packet_iv(context);
     let m = n - 16;
     let made = tag(key, hash, nonce, &buf[0..m], r.first, r.stop, r.rest);
     let differs = !same(&made, &buf[m..n]);

@@ -3,11 +3,9 @@ use mathlib.Core.Path.{◌≡◌, sym, ◌∙◌}
 use Prim.Native.Nat.{ℕ, suc, ◌+◌, ◌-◌, ◌<◌, ◌≤◌}
 use native.Mathlib.Omega.{arith}
 use lib.IntN.{ℤ, pos, sub_ℕ, nat_abs, ◌+ℤ◌, ◌-ℤ◌, +ℤ_comm, -ℤ-+ℤ_cancel, pos-ne-negsuc}
-use Rattle.replay.specs.declared.guess.Offset.{Offset}
 use Rattle.replay.specs.Guess.{low_of, guess_of, distance_of}
-use Rattle.replay.specs.Steps.{offset_of}
 use Rattle.replay.proofs.Differences.{by_sign, lands}
-use Rattle.replay.proofs.Guesses.{by-guess, guess-is, distance_is}
+use Rattle.replay.proofs.Guesses.{Offset, offset_of, by-guess, guess-is, distance_is}
 
 -- a difference that is not negative
 landed : (a b n : ℕ) → sub_ℕ a b ≡ pos n → a ≡ n + b

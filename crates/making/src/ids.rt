@@ -8,11 +8,10 @@ fn with_id(word: u64, id: u8) -> u64
     ensures { result ≡ with_id word id }
 {
     if id == 0 {
-        return word;
+        word
+    } else {
+        word | (1 << (id % 64))
     }
-    let k = (id % 64) as u64;
-    let one: u64 = 1;
-    word | (one << k)
 }
 
 // The ids from 1 to 255 as the bits of four words.
@@ -20,13 +19,9 @@ pub fn flags(ids: &[u8]) -> [u64; 4]
     ensures { result ≡ ids_of ids.now }
 {
     let mut set = [0u64; 4];
-    let mut i: usize = 0;
-    while i < ids.len() {
-        let id = ids[i];
-        let place = (id as usize) / 64;
-        let word = with_id(set[place], id);
-        set[place] = word;
-        i += 1;
+    for &id in ids {
+        let place = usize::from(id) / 64;
+        set[place] = with_id(set[place], id);
     }
     set
 }

@@ -1,5 +1,6 @@
 // A session made in the memory that is lent.
-ghost use Rattle.std.specs.Prelude.{◌≡◌, ◌<◌, length};
+ghost use Rattle.std.specs.Prelude.{◌≡◌, ◌<◌, length, MatchResult};
+ghost use Rattle.bits.specs.Refusals.{number_of};
 ghost use Rattle.session.specs.Calls.{Leaves, make_call};
 ghost use Rattle.session.specs.Making.{make_of};
 ghost use Rattle.session.specs.Memory.{size, decode};
@@ -7,29 +8,24 @@ ghost use Rattle.suites.specs.Suites.{suite_of};
 ghost use Rattle.making.specs.Steps.{make_number};
 
 use crate::ids::flags;
-use bits::arrays::{array16, filled14};
+use bits::arrays::{array, filled};
 use bits::refusal::{MEMORY, Refusal, SUITE};
-use memory::copying::{clear, copy};
-use session::answer::code;
 use session::layout::{FRONT, SIZE};
 use setup_words::keys::session_keys;
 use setup_words::words::front_words;
 use suites::suite::Suite;
 
-// The refusal of a key and a salt of these lengths and of a policy, or 0.
-fn make_number(suite: Suite, key: usize, salt: usize, policy: u64) -> u32
-    ensures { result ≡ make_number suite key salt policy }
+// A key and a salt of these lengths and a policy, judged.
+fn judge(suite: Suite, key: usize, salt: usize, policy: u64) -> Result<(), Refusal>
+    ensures { MatchResult result (λ _. make_number suite key salt policy ≡ 0) (λ r. (make_number suite key salt policy ≡ number_of r) × (0 < number_of r)) }
 {
-    if key != 16 {
-        return code(Refusal::Keys);
-    }
-    if salt != suite.salt_length() {
-        return code(Refusal::Keys);
+    if key != 16 || salt != suite.salt_length() {
+        return Err(Refusal::Keys);
     }
     if suite.last_policy() < policy {
-        return code(Refusal::Policy);
+        return Err(Refusal::Policy);
     }
-    0
+    Ok(())
 }
 
 // A session of suite 0, AES_CM_128_HMAC_SHA1_80, or 1, AEAD_AES_128_GCM. Refused with 15 or 16, memory holds the unmade session, which takes no stream; refused with
@@ -48,21 +44,18 @@ pub fn make(
     if session.len() != SIZE {
         return MEMORY;
     }
-    let unknown = 1 < suite;
-    if unknown {
+    if 1 < suite {
         return SUITE;
     }
-    clear(session);
-    let own = Suite::from(u64::from(suite));
-    let number = make_number(own, key.len(), salt.len(), policy);
-    if number != 0 {
-        return number;
+    session.fill(0);
+    let suite = Suite::from(u64::from(suite));
+    if let Err(refusal) = judge(suite, key.len(), salt.len(), policy) {
+        return u32::from(refusal);
     }
-    let master_key = array16(key);
-    let master_salt = filled14(salt);
-    let set = flags(ids);
-    let keys = session_keys(master_key, master_salt);
-    let front = front_words(own, policy, master_key, master_salt, set, keys);
-    copy(&mut session[0..FRONT], &front);
+    let key = array(key);
+    let salt = filled(salt);
+    let keys = session_keys(key, salt);
+    let front = front_words(suite, policy, key, salt, flags(ids), keys);
+    session[..FRONT].copy_from_slice(&front);
     0
 }

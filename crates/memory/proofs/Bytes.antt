@@ -1,19 +1,20 @@
 -- Bytes in two words, and numbers in one each, come back as they were.
-use mathlib.Core.Path.{◌≡◌, sym, ap, ap₂, ◌∙◌}
-use mathlib.Core.List.{List, [], ◌∷◌, ◌++◌}
+use mathlib.Core.Path.{◌≡◌, refl, sym, ap, ap₂, ◌∙◌}
+use mathlib.Core.List.{List, [], ◌∷◌, ◌++◌, append-nil}
+use borrow.Rule.Slice.PartMut.{put_mid}
 use Prim.Native.Nat.{ℕ, zero, suc, ◌+◌, ◌-◌, ◌^◌, ◌≤◌}
 use native.Mathlib.Nat.{zero-mul, zero-add, mod-eq_of_lt}
 use native.Mathlib.Omega.{arith}
 use lib.Dec.{T}
-use lib.ListN.{length, get_or, take, drop, length-drop, take-append-drop}
+use lib.ListN.{length, take, drop, length-drop, take-append-drop, replicate, length-replicate, drop_of_length-le}
+use Rattle.std.proofs.lemmas.List.{take-replicate}
 use lib.Pow.{are_bytes}
-use lib.Seq.{length-take-le, take_all, get_or-take, get_or-drop}
+use lib.Seq.{length-take-le, take_all}
 use Rattle.bits.specs.BigEndian.{to_bytes, from_bytes}
-use Rattle.bits.specs.Lists.{tabulate}
-use Rattle.bits.proofs.BigEndian.{to-from}
+use Rattle.bits.proofs.BigEndian.{to-from, length_to}
 use Rattle.bits.proofs.Bytes.{are-bytes, first_byte, other-bytes, cons-bytes}
-use Rattle.bits.proofs.Lists.{tabulated, tabulate-ext}
-use Rattle.memory.specs.Words.{halves, Array, Lasts, Numbers5}
+use Rattle.bits.proofs.Lists.{tabulated}
+use Rattle.memory.specs.Words.{Array, Lasts, Numbers5}
 
 take-bytes : (n : ℕ) (l : List ℕ) → T (are_bytes l) → T (are_bytes (take n l))
 take-bytes zero l t = tt
@@ -47,31 +48,28 @@ five-kept l a =
           (tabulated 0 5 l a.long);
     }
 
--- ---- bytes read one by one
+-- ---- bytes cut off and put in front
 
-part-is : (at n : ℕ) (l : List ℕ) → at + n ≤ length l → tabulate n (λ i. get_or l (at + i) 0) ≡ take n (drop at l)
-part-is at n l h =
-    let d : length (drop at l) ≡ length l - at = length-drop at l in
-    sym (tabulate-ext n (λ i. get_or (take n (drop at l)) i 0) (λ i. get_or l (at + i) 0) (λ i b. get_or-take n (drop at l) i 0 b ∙ get_or-drop at l i 0))
-    ∙ tabulated 0 n (take n (drop at l)) (length-take-le n (drop at l) (omega arith))
+-- the low bytes of a number
+low-bytes : (m n x : ℕ) → m ≤ n → drop m (to_bytes n x) ≡ to_bytes (n - m) x
+low-bytes zero n x h = let e : n ≡ n - 0 = omega arith in ap (λ (k : ℕ). to_bytes k x) e
+low-bytes (suc m) zero x h = absurd (omega arith)
+low-bytes (suc m) (suc n) x h = let e : n - m ≡ suc n - suc m = omega arith in low-bytes m n x (omega arith) ∙ ap (λ (k : ℕ). to_bytes k x) e
 
-first-eight : (l : List ℕ) → 8 ≤ length l → from_bytes (tabulate 8 (λ i. get_or l (0 + i) 0)) ≡ from_bytes (take 8 l)
-first-eight l h = ap from_bytes (part-is 0 8 l (omega arith))
+pub low-part : (n x : ℕ) (l : List ℕ) → 8 ≤ n → n ≤ 16 → l ≡ to_bytes 8 x → take (8 - (16 - n)) (drop (16 - n) l) ≡ to_bytes (n - 8) x
+low-part n x l h k e =
+    let d : 8 - (16 - n) ≡ n - 8 = omega arith in
+    let r : drop (16 - n) l ≡ to_bytes (8 - (16 - n)) x = ap (drop (16 - n)) e ∙ low-bytes (16 - n) 8 x (omega arith) in
+    take_all (8 - (16 - n)) (drop (16 - n) l) (let z = length_to (8 - (16 - n)) x in omega (arith, ap length r)) ∙ r ∙ ap (λ (i : ℕ). to_bytes i x) d
 
-after-eight : (n : ℕ) → 8 ≤ n → (l : List ℕ) → length l ≡ n → from_bytes (tabulate (n - 8) (λ i. get_or l (8 + i) 0)) ≡ from_bytes (drop 8 l)
-after-eight n h l e =
-    let d : length (drop 8 l) ≡ length l - 8 = length-drop 8 l in
-    ap from_bytes (part-is 8 (n - 8) l (omega arith) ∙ take_all (n - 8) (drop 8 l) (omega arith))
+-- zeros in front count nothing
+zeros : (n : ℕ) (l : List ℕ) → from_bytes (replicate n 0 ++ l) ≡ from_bytes l
+zeros zero l = refl
+zeros (suc n) l = simp (zero-mul, zero-add) (zeros n l)
 
--- two words read of n bytes are their halves, and the bytes come back from them
-pub halved : (n : ℕ) → 8 ≤ n → (l : List ℕ) → Array n 256 l
-    → (x y : ℕ) → x ≡ from_bytes (tabulate 8 (λ i. get_or l (0 + i) 0)) → y ≡ from_bytes (tabulate (n - 8) (λ i. get_or l (8 + i) 0))
-    → ((x ∷ y ∷ []) ≡ halves l) × Lasts n l
-halved n h l a x y ex ey = (
-  ap₂ (λ (i k : ℕ). i ∷ k ∷ []) (ex ∙ first-eight l (omega (arith, a.long))) (ey ∙ after-eight n h l a.long),
-  bytes-kept n h l a,
-)
-
--- two zeros in front count nothing
-pub zeros : (l : List ℕ) → from_bytes (0 ∷ 0 ∷ l) ≡ from_bytes l
-zeros l = simp (zero-mul, zero-add)
+pub after-zeros : (k : ℕ) (m l : List ℕ) → k + length m ≡ 8 → m ≡ l → from_bytes (put_mid k (8 - k) (replicate 8 0) m) ≡ from_bytes l
+after-zeros k m l h e =
+    let f : take k (replicate 8 0) ≡ replicate k 0 = take-replicate k 8 0 (omega arith) in
+    let d : drop (8 - k) (drop k (replicate 8 0)) ≡ [] =
+    drop_of_length-le (drop k (replicate 8 0)) (omega (arith, length-drop {A = ℕ} k (replicate 8 0), length-replicate {A = ℕ} 8 0)) in
+    ap from_bytes (ap₂ (λ (u v : List ℕ). u ++ (m ++ v)) f d ∙ ap (λ (u : List ℕ). replicate k 0 ++ u) (append-nil m ∙ e)) ∙ zeros k l

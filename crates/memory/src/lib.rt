@@ -2,5 +2,4 @@
 // Follows no paper: the laws here are what a session's layout rests on.
 #![tactic(auto)]
 
-pub mod copying;
 pub mod words;

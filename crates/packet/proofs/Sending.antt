@@ -51,14 +51,12 @@ module _ (suite : Suite) (keys : Keys) (policy : Policy) (listed : ℕ → Bool)
 
       -- the first bytes of the code, in their place
       pub sent : (end : ℕ) → end ≡ m + tag_length_of suite → end ≤ length l → (code place : List ℕ) → take (tag_length_of suite) code ≡ tag_of suite keys policy ssrc index ys
-          → place ≡ take (length (take (end - m) (drop m c))) code
+          → place ≡ take (tag_length_of suite) code
           → take m c ++ (place ++ drop (end - m) (drop m c)) ≡ wire_of suite keys policy listed ssrc index (take n l) ++ drop end l
       sent end e fits code place t q =
           let z : end - m ≡ tag_length_of suite = omega arith in
           let y : m + tag_length_of suite ≡ end = sym e in
-          let k : length (take (end - m) (drop m c)) ≡ tag_length_of suite
-          = ap (λ (d : List ℕ). length (take (end - m) d)) back_is ∙ length-take-le (end - m) (drop m l) (simp length-drop (omega arith)) ∙ z in
-          let p : place ≡ tag_of suite keys policy ssrc index ys = q ∙ ap (λ (j : ℕ). take j code) k ∙ t in
+          let p : place ≡ tag_of suite keys policy ssrc index ys = q ∙ t in
           let g : drop (end - m) (drop m c) ≡ drop end l = ap₂ (λ (i : ℕ) (v : List ℕ). drop i v) z back_is ∙ drop-drop (tag_length_of suite) m l ∙ ap (λ (j : ℕ). drop j l) y in
           ap₂ (λ (u v : List ℕ). u ++ v) front-is (ap₂ (λ (u v : List ℕ). u ++ v) p g)
           ∙ sym (append_assoc ys (tag_of suite keys policy ssrc index ys) (drop end l))

@@ -10,16 +10,12 @@ ghost use Rattle.wire.specs.Wire.{given_back_of};
 use cryptex::block::add_block;
 use cryptex::tag::{cryptex_tag, plain_tag, write_tag};
 use policies::policy::Policy;
-use policies::uses::{adds_block, is_cryptex, uses_cryptex};
 use rtp_header::header::Layout;
 
 fn sends_cryptex(policy: Policy, h: Layout) -> bool
     ensures { result ≡ (uses_cryptex policy && h.x) }
 {
-    if uses_cryptex(policy) {
-        return h.x;
-    }
-    false
+    policy.uses_cryptex() && h.x
 }
 
 // A packet's new length and its layout.
@@ -37,17 +33,15 @@ fn raise(policy: Policy, buf: &mut [u8], n: usize, h: Layout) -> Formed
     ensures buf_after { buf.new ≡ given_back_of policy (take n buf.old) ++ drop result.length buf.old }
     ensures shaped { Shaped policy (given_back_of policy (take n buf.old)) result.length result.layout }
 {
-    if adds_block(policy, h) {
+    if policy.adds_block(h) {
         let at = h.extension;
         add_block(buf, at, n);
         let g = Layout {
-            cc: h.cc,
             x: true,
             tag: 0xBEDE,
-            contributors: 12,
-            extension: at,
             block: at + 4,
             payload: at + 4,
+            ..h
         };
         return Formed {
             length: n + 4,
@@ -70,15 +64,7 @@ fn say_cryptex(policy: Policy, packet: &mut [u8], h: Layout) -> Layout
         let at = h.extension;
         let tag = cryptex_tag(h.tag);
         write_tag(packet, at, tag);
-        return Layout {
-            cc: h.cc,
-            x: true,
-            tag,
-            contributors: h.contributors,
-            extension: at,
-            block: h.block,
-            payload: h.payload,
-        };
+        return Layout { tag, ..h };
     }
     h
 }
@@ -93,8 +79,7 @@ pub fn to_wire(policy: Policy, buf: &mut [u8], n: usize, h: Layout) -> Formed
 {
     let raised = raise(policy, buf, n, h);
     let m = raised.length;
-    let layout = raised.layout;
-    let g = say_cryptex(policy, &mut buf[0..m], layout);
+    let g = say_cryptex(policy, &mut buf[0..m], raised.layout);
     Formed {
         length: m,
         layout: g,
@@ -106,7 +91,7 @@ pub fn from_wire(policy: Policy, packet: &mut [u8], h: Layout)
     requires { (h ≡ layout_of packet.old) × (h.payload ≤ length packet.old) }
     ensures { packet.new ≡ untagged_of policy packet.old }
 {
-    if is_cryptex(policy, h) {
+    if policy.is_cryptex(h) {
         let at = h.extension;
         let tag = plain_tag(h.tag);
         write_tag(packet, at, tag);

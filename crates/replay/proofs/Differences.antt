@@ -1,15 +1,12 @@
--- Laws of the signed difference of two numbers (lib.IntN's `sub_ℕ`), and what the machine subtracts.
+-- Laws of the signed difference of two numbers (lib.IntN's `sub_ℕ`).
 use mathlib.Core.Path.{◌≡◌, refl, sym, ap, ◌∙◌}
 use mathlib.Core.Bool.{Bool, true, false, cond}
-use Prim.Native.Nat.{ℕ, zero, suc, ◌+◌, ◌-◌, ◌^◌, ◌<◌, ◌≤◌, zero-le}
+use Prim.Native.Nat.{ℕ, zero, suc, ◌+◌, ◌-◌, ◌<◌, ◌≤◌, zero-le}
 use native.Mathlib.Nat.{add-zero}
 use native.Mathlib.Omega.{arith}
 use borrow.Author.Tests.{ltb-true, ltb-false, lt-ltb, le-ltb}
 use lib.Dec.{ltb}
 use lib.IntN.{ℤ, pos, negsuc, sub_ℕ, ◌-ℤ◌, +ℤ_idr}
-use mir.Syntax.{w32}
-use mir.Val.{SFits, to_z, of_z}
-use mir.ValLaws.{to_z_pos, to_z-of_z}
 
 pub by_sign : (P : ℤ → Type 0) (a b : ℕ) → (a < b → P (negsuc (b - suc a))) → (b ≤ a → P (pos (a - b))) → P (sub_ℕ a b)
 by_sign P a b f g = go (ltb a b) refl
@@ -34,7 +31,7 @@ same-difference a b c d e =
     (λ h. let f : b - suc a ≡ d - suc c = omega arith in ap negsuc f ∙ sym (below c d (omega arith)))
     (λ h. sym (lands c d (a - b) (omega arith)))
 
-minus : (a b : ℕ) → pos a -ℤ pos b ≡ sub_ℕ a b
+pub minus : (a b : ℕ) → pos a -ℤ pos b ≡ sub_ℕ a b
 minus a zero = let e : a + 0 ≡ a - 0 = omega arith in rw (le-ltb a 0 zero-le) (ap pos e)
 minus a (suc b) = refl
 
@@ -47,17 +44,3 @@ minus_number a b c =
     by_sign (λ (z : ℤ). z -ℤ pos c ≡ sub_ℕ a (b + c)) a b
     (λ h. let f : b - suc a + c ≡ b + c - suc a = omega arith in negative-minus (b - suc a) c ∙ ap negsuc f ∙ sym (below a (b + c) (omega arith)))
     (λ h. minus (a - b) c ∙ same-difference (a - b) c a (b + c) (omega arith))
-
--- ---- 32-bit numbers, subtracted as signed ones
-
-small : (a b : ℕ) → a < 2 ^ 31 → b < 2 ^ 31 → SFits w32 (sub_ℕ a b)
-small a b h k = by_sign (SFits w32) a b (λ l. record { sfits = omega arith }) (λ l. record { sfits = omega arith })
-
-machine-minus : (a b : ℕ) → a < 2 ^ 31 → b < 2 ^ 31 → to_z w32 a -ℤ to_z w32 b ≡ sub_ℕ a b
-machine-minus a b h k = rw (to_z_pos w32 a (omega arith), to_z_pos w32 b (omega arith)) (minus a b)
-
-pub difference-fits : (a b : ℕ) → a < 2 ^ 31 → b < 2 ^ 31 → SFits w32 (to_z w32 a -ℤ to_z w32 b)
-difference-fits a b h k = rw (machine-minus a b h k) (small a b h k)
-
-pub difference-is : (a b : ℕ) → a < 2 ^ 31 → b < 2 ^ 31 → to_z w32 (of_z w32 (to_z w32 a -ℤ to_z w32 b)) ≡ sub_ℕ a b
-difference-is a b h k = rw (machine-minus a b h k) (to_z-of_z w32 (sub_ℕ a b) (small a b h k))

@@ -1,14 +1,26 @@
--- The guess by its two numbers: what the code computes is document 01's rule.
-use mathlib.Core.Path.{◌≡◌, sym, ap, ◌∙◌}
-use Prim.Native.Nat.{ℕ, suc, ◌+◌, ◌-◌, ◌*◌, ◌^◌, ◌<◌, ◌≤◌}
+-- The guess by two numbers, and what the code computes of it.
+use mathlib.Core.Path.{◌≡◌, refl, sym, ap, ◌∙◌}
+use lib.Dec.{ltb}
+use Rattle.bits.specs.Pick.{pick}
+use Rattle.std.proofs.lemmas.Int.{ints}
+use Prim.Native.Nat.{ℕ, suc, ◌+◌, ◌-◌, ◌*◌, ◌<◌, ◌≤◌}
 use native.Mathlib.Decide.{dec_lt}
 use native.Mathlib.Omega.{arith}
 use borrow.Author.Tests.{lt-ltb, le-ltb, lt-leb, le-leb}
 use lib.IntN.{ℤ, pos, negsuc, sub_ℕ, ◌+ℤ◌, ◌-ℤ◌, ◌*ℤ◌}
-use Rattle.replay.specs.declared.guess.Offset.{Offset}
 use Rattle.replay.specs.Guess.{low_of, rollover_of, guessed_rollover, guess_of, distance_of}
-use Rattle.replay.specs.Steps.{offset_of}
-use Rattle.replay.proofs.Differences.{by_sign, lands, same-difference, minus_number}
+use Rattle.replay.proofs.Differences.{by_sign, lands, same-difference, minus, minus_number}
+
+-- the guess as two numbers: the guessed index is h + up - down
+pub record Offset : Type 0 where
+  pub up : ℕ
+  pub down : ℕ
+
+unfoldable pub offset_of : ℕ → ℕ → Offset
+offset_of h seq =
+    pick (ltb (low_of h) 32768)
+    (pick (ltb (low_of h + 32768) seq) (record { up = seq; down = low_of h + 65536 }) (record { up = seq; down = low_of h }))
+    (pick (ltb (seq + 32768) (low_of h)) (record { up = seq + 65536; down = low_of h }) (record { up = seq; down = low_of h }))
 
 -- the three cases of the rule
 module _ (P : ℤ → Offset → Type 0) (h seq : ℕ) (small : seq < 65536)
@@ -68,9 +80,24 @@ module _ (h seq : ℕ) (small : seq < 65536) where
       ∙ minus_number (h + o.up) o.down h
       ∙ same-difference (h + o.up) (o.down + h) o.up o.down (omega arith)
 
-  -- the two numbers are small
-  pub up_small : (offset_of h seq).up < 2 ^ 31
-  up_small = by-guess (λ (v : ℤ) (o : Offset). o.up < 2 ^ 31) h seq small (λ p. omega arith) (λ p. omega arith) (λ p q. omega arith)
+  -- and in the code's three cases
+  pub one_back : low_of h + 32768 < seq → distance_of h seq ≡ pos seq -ℤ pos (low_of h + 65536)
+  unfolding offset_of
+  one_back p = rw (distance_is, minus seq (low_of h + 65536)) (simp (lt-ltb (low_of h) 32768 (omega arith), lt-ltb (low_of h + 32768) seq p) refl)
 
-  pub down-small : (offset_of h seq).down < 2 ^ 31
-  down-small = by-guess (λ (v : ℤ) (o : Offset). o.down < 2 ^ 31) h seq small (λ p. omega arith) (λ p. omega arith) (λ p q. omega arith)
+  pub one_on : seq + 32768 < low_of h → distance_of h seq ≡ pos (seq + 65536) -ℤ pos (low_of h)
+  unfolding offset_of
+  one_on p = rw (distance_is, minus (seq + 65536) (low_of h)) (simp (le-ltb (low_of h) 32768 (omega arith), lt-ltb (seq + 32768) (low_of h) p) refl)
+
+  pub same_rollover : seq ≤ low_of h + 32768 → low_of h ≤ seq + 32768 → distance_of h seq ≡ pos seq -ℤ pos (low_of h)
+  unfolding offset_of
+  same_rollover p q =
+      rw (distance_is, minus seq (low_of h)) (elim (dec_lt (low_of h) 32768) [
+        | yes l ↦ simp (lt-ltb (low_of h) 32768 l, le-ltb (low_of h + 32768) seq p) refl
+        | no l ↦ simp (le-ltb (low_of h) 32768 (omega arith), le-ltb (seq + 32768) (low_of h) q) refl
+      ])
+
+  pub reached : pos h +ℤ distance_of h seq ≡ guess_of h seq
+  reached =
+      let o = offset_of h seq in
+      rw (distance_is, guess-is, ← minus o.up o.down, ← minus (h + o.up) o.down) (omega (arith, ints))

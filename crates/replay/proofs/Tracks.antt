@@ -1,12 +1,12 @@
 -- Tracks and states, for what is built on top: a state in words and back, how many words there are, and what a step leaves.
 use Rattle.std.specs.Prelude.{Result, Ok, Err}
-use mathlib.Core.Path.{◌≡◌, refl, sym, ap, ap₂, ◌∙◌}
+use mathlib.Core.Path.{◌≡◌, refl, ap, ap₂, ◌∙◌}
 use mathlib.Core.Bool.{Bool, true, false}
 use mathlib.Core.List.{List, ◌++◌}
-use Prim.Native.Nat.{ℕ, suc, ◌+◌, ◌-◌, ◌/◌, ◌≤◌, max}
+use Prim.Native.Nat.{ℕ, suc, ◌+◌, ◌-◌, ◌/◌}
 use native.Mathlib.Omega.{arith}
 use lib.Dec.{eqb}
-use lib.ListN.{length, get_or, take, drop, replicate, take-append-drop, length-append, length-set, length-drop, length-replicate, replicate-append-replicate}
+use lib.ListN.{length, drop, replicate, length-append, length-set, length-drop, length-replicate, replicate-append-replicate}
 use lib.Seq.{length-take-le, take_at, drop_at}
 use Rattle.bits.specs.Pick.{pick}
 use Rattle.bits.specs.declared.refusal.Refusal.{Refusal}
@@ -24,18 +24,10 @@ module _ (b W : ℕ) (s : ReplayState) (rollover seq : ℕ) where
   unfolding receive_of
   received-state i e = ap (after_of b s) e
 
-  pub not-received : (r : Refusal) → (receive_of b W s rollover seq).judged ≡ Err r → (receive_of b W s rollover seq).state ≡ s
-  unfolding receive_of
-  not-received r e = ap (after_of b s) e
-
 module _ (s : ReplayState) (rollover seq : ℕ) where
   pub sent-state : (i : ℕ) → (send_of s rollover seq).judged ≡ Ok i → (send_of s rollover seq).state ≡ sent_of s (Ok i)
   unfolding send_of
   sent-state i e = ap (sent_of s) e
-
-  pub not-sent : (r : Refusal) → (send_of s rollover seq).judged ≡ Err r → (send_of s rollover seq).state ≡ s
-  unfolding send_of
-  not-sent r e = ap (sent_of s) e
 
 -- ---- a ring of b blocks
 
@@ -109,40 +101,3 @@ unfolding state_words
 fresh-words b =
     let e : 2 + (b + b) ≡ suc (suc (b + b)) = omega arith in
     rw (e, replicate-append-replicate {A = ℕ} b b 0)
-
--- ---- a track after a step, for any number of words
-
-marked-halves : (r : List ℕ) (i : ℕ) → let w = mark_of (blocks_in r) (window_in r) i in length w.stamps ≡ length (w.stamps ++ w.bits) / 2
-unfolding window_in mark_of
-marked-halves r i =
-    let t : length (take (blocks_in r) r) ≡ blocks_in r = length-take-le (blocks_in r) r (omega arith) in
-    let d : length (drop (blocks_in r) r) ≡ length r - blocks_in r = length-drop (blocks_in r) r in
-    simp (length-append, length-set) (omega (arith, t, d))
-
-module _ (l : List ℕ) (i : ℕ) where
-  pub accepted-kept : state_in (state_words (accept_of (blocks_in (drop 2 l)) (state_in l) i)) ≡ accept_of (blocks_in (drop 2 l)) (state_in l) i
-  unfolding accept_of state_in state_words
-  accepted-kept =
-      ap (λ (w : Window). record { started = true; highest = pick (eqb (get_or l 0 0) 1) (max (get_or l 1 0) i) i; window = w })
-      (window-kept (mark_of (blocks_in (drop 2 l)) (window_in (drop 2 l)) i) (marked-halves (drop 2 l) i))
-
-  pub sent-kept : state_in (state_words (sent_of (state_in l) (Ok i))) ≡ sent_of (state_in l) (Ok i)
-  unfolding state_in state_words window_in
-  sent-kept = rw (take-append-drop (blocks_in (drop 2 l)) (drop 2 l))
-
-  -- as many words as before
-  module _ (some : 2 ≤ length l) where
-    pub accepted-length : length (state_words (accept_of (blocks_in (drop 2 l)) (state_in l) i)) ≡ length l
-    unfolding accept_of state_in state_words window_in mark_of
-    accepted-length =
-        let r = drop 2 l in
-        let d : length r ≡ length l - 2 = length-drop 2 l in
-        let t : length (take (blocks_in r) r ++ drop (blocks_in r) r) ≡ length r = ap length (take-append-drop (blocks_in r) r) in
-        let u : length (take (blocks_in r) r) + length (drop (blocks_in r) r) ≡ length r = sym (length-append (take (blocks_in r) r) (drop (blocks_in r) r)) ∙ t in
-        simp (length-append, length-set) (omega (arith, u, d))
-
-    pub sent-length : length (state_words (sent_of (state_in l) (Ok i))) ≡ length l
-    unfolding state_in state_words window_in
-    sent-length =
-        let d : length (drop 2 l) ≡ length l - 2 = length-drop 2 l in
-        rw (take-append-drop (blocks_in (drop 2 l)) (drop 2 l)) (omega arith)

@@ -2,11 +2,11 @@
 ghost use Rattle.std.specs.Prelude.{◌≡◌, ◌+◌, ◌*◌};
 
 // 2^48: the first number that is no index.
-pub const LIMIT: u64 = 281474976710656;
+pub const LIMIT: u64 = 1 << 48;
 
 // The index of a stream's first packet.
 pub(crate) fn first_index(rollover: u32, sequence: u16) -> u64
     ensures { result ≡ rollover * 65536 + sequence }
 {
-    (rollover as u64) * 65536 + (sequence as u64)
+    (u64::from(rollover) << 16) + u64::from(sequence)
 }

@@ -1,14 +1,13 @@
 // The step of a receiver, in two halves: `receive` judges a sequence number beside the stream's track and writes nothing, and `accept` writes,
 // once the packet's tag is right. The track lies in memory that the caller lends: started, highest, ring. No part of it is copied.
-ghost use Rattle.std.specs.Prelude.{◌≡◌, ◌+◌, ◌≤◌, max, eqb, leb, length, drop};
-ghost use Rattle.std.proofs.Math.IntN.{sub_ℕ};
+ghost use Rattle.std.specs.Prelude.{◌≡◌, ◌+◌, ◌≤◌, max, eqb, leb, length, drop, pos, ◌+ℤ◌};
 ghost use Rattle.bits.specs.Pick.{pick};
 ghost use Rattle.replay.specs.State.{judge_of, accept_of};
 ghost use Rattle.replay.specs.Receive.{judge_index};
 ghost use Rattle.replay.specs.Steps.{arrival_of};
 ghost use Rattle.replay.specs.Track.{blocks_in, started_in, state_in, state_words};
 
-use crate::guess::{difference, guess};
+use crate::guess::guess;
 use crate::index::{LIMIT, first_index};
 use crate::ring::{mark, seen};
 use bits::refusal::Refusal;
@@ -24,41 +23,37 @@ pub struct Arrival {
 fn is_old(highest: u64, width: u64, index: u64) -> bool
     ensures { result ≡ leb (index + width) highest }
 {
-    if highest < index {
-        return false;
-    }
-    width <= highest - index
+    index <= highest && width <= highest - index
 }
 
 // Old, repeated, or to be accepted, of a stream that had a packet.
+#[tactic(auto, unfolding(crate::specs::State::judge_of))]
 fn judge(ring: &[u64], highest: u64, width: u64, index: u64) -> Result<u64, Refusal>
     requires { 2 ≤ length ring.now }
     ensures { result ≡ judge_of (blocks_in ring.now) width (started_in highest ring.now) index }
 {
     if is_old(highest, width, index) {
-        return Err(Refusal::Old);
+        Err(Refusal::Old)
+    } else if seen(ring, index) {
+        Err(Refusal::Repeat)
+    } else {
+        Ok(index)
     }
-    if seen(ring, index) {
-        return Err(Refusal::Repeat);
-    }
-    Ok(index)
 }
 
-// The index `highest + up - down`: worn from 2^48 on, old below 0, else judged. The two tests are written so that no sum can wrap.
-fn judge_offset(ring: &[u64], highest: u64, width: u64, up: u32, down: u32) -> Result<u64, Refusal>
+// The index at a distance from the highest: old below 0, worn from 2^48 on, else judged. Told in 128 bits, which hold it whatever the highest is.
+fn judge_guess(ring: &[u64], highest: u64, width: u64, distance: i32) -> Result<u64, Refusal>
     requires { 2 ≤ length ring.now }
-    ensures { result ≡ judge_index (blocks_in ring.now) width (started_in highest ring.now) (sub_ℕ (highest + up) down) }
+    ensures { result ≡ judge_index (blocks_in ring.now) width (started_in highest ring.now) (pos highest +ℤ distance) }
 {
-    let up = up as u64;
-    let down = down as u64;
-    if LIMIT + down - up <= highest {
-        return Err(Refusal::Worn);
+    let guessed = i128::from(highest) + i128::from(distance);
+    if guessed < 0 {
+        Err(Refusal::Old)
+    } else if i128::from(LIMIT) <= guessed {
+        Err(Refusal::Worn)
+    } else {
+        judge(ring, highest, width, guessed as u64)
     }
-    let reached = highest + up;
-    if reached < down {
-        return Err(Refusal::Old);
-    }
-    judge(ring, highest, width, reached - down)
 }
 
 // The answer for a sequence number. `rollover` is the starting rollover of the stream, which counts for its first packet only. Any words have an
@@ -67,21 +62,17 @@ pub fn receive(track: &[u64], width: u64, rollover: u32, sequence: u16) -> Arriv
     requires { 4 ≤ length track.now }
     ensures { result ≡ arrival_of (blocks_in (drop 2 track.now)) width (state_in track.now) rollover sequence }
 {
-    if track[0] != 1 {
-        return Arrival {
-            judged: Ok(first_index(rollover, sequence)),
+    if track[0] == 1 {
+        let highest = track[1];
+        let distance = guess(highest, sequence);
+        let judged = judge_guess(&track[2..], highest, width, distance);
+        Arrival { judged, distance }
+    } else {
+        let judged = Ok(first_index(rollover, sequence));
+        Arrival {
+            judged,
             distance: 0,
-        };
-    }
-    let highest = track[1];
-    let o = guess(highest, sequence);
-    let up = o.up;
-    let down = o.down;
-    let judged = judge_offset(&track[2..], highest, width, up, down);
-    let distance = difference(up, down);
-    Arrival {
-        judged: judged,
-        distance: distance,
+        }
     }
 }
 
@@ -89,13 +80,11 @@ pub fn receive(track: &[u64], width: u64, rollover: u32, sequence: u16) -> Arriv
 fn highest_with(started: u64, highest: u64, index: u64) -> u64
     ensures { result ≡ pick (eqb started 1) (max highest index) index }
 {
-    if started != 1 {
-        return index;
+    if started == 1 {
+        highest.max(index)
+    } else {
+        index
     }
-    if highest < index {
-        return index;
-    }
-    highest
 }
 
 // One index more accepted: four words written, the others as they were.

@@ -21,13 +21,15 @@ fn block(ring: &[u64], number: u64) -> u64
 {
     let b = ring.len() / 2;
     let place = place_of(number, b);
-    if ring[place] != number {
-        return 0;
+    if ring[place] == number {
+        ring[b + place]
+    } else {
+        0
     }
-    ring[b + place]
 }
 
 // Index was accepted.
+#[tactic(auto, unfolding(crate::specs::Window::seen_in))]
 pub fn seen(ring: &[u64], index: u64) -> bool
     requires { 2 ≤ length ring.now }
     ensures { result ≡ seen_in (blocks_in ring.now) (window_in ring.now) index }
@@ -45,9 +47,8 @@ pub fn mark(ring: &mut [u64], index: u64)
     let number = index / 64;
     let bits = block(ring, number);
     let k = index % 64;
-    let one: u64 = 1;
     let b = ring.len() / 2;
     let place = place_of(number, b);
     ring[place] = number;
-    ring[b + place] = bits | (one << k);
+    ring[b + place] = bits | (1 << k);
 }

@@ -8,10 +8,11 @@ use crate::index::{LIMIT, first_index};
 use bits::refusal::Refusal;
 
 // From the last index to a sequence number, forward.
+#[tactic(auto, unfolding(crate::specs::Send::step_of))]
 fn step(last: u64, sequence: u16) -> u64
     ensures { result ≡ step_of last sequence }
 {
-    ((sequence as u64) + 65536 - last % 65536) % 65536
+    (u64::from(sequence) + 65536 - last % 65536) % 65536
 }
 
 // The index after the last one.
@@ -19,16 +20,13 @@ fn next(last: u64, sequence: u16) -> Result<u64, Refusal>
     ensures { result ≡ stepped_of last (step_of last sequence) }
 {
     let step = step(last, sequence);
-    if step == 0 {
-        return Err(Refusal::Order);
+    if !(1..=32767).contains(&step) {
+        Err(Refusal::Order)
+    } else if LIMIT - step <= last {
+        Err(Refusal::Worn)
+    } else {
+        Ok(last + step)
     }
-    if 32767 < step {
-        return Err(Refusal::Order);
-    }
-    if LIMIT - step <= last {
-        return Err(Refusal::Worn);
-    }
-    Ok(last + step)
 }
 
 // The answer for a sequence number. `rollover` is the starting rollover of the stream, which counts for its first packet only. Any words have an
@@ -37,10 +35,11 @@ pub fn send(track: &[u64], rollover: u32, sequence: u16) -> Result<u64, Refusal>
     requires { 2 ≤ length track.now }
     ensures { result ≡ (send_of (state_in track.now) rollover sequence).judged }
 {
-    if track[0] != 1 {
-        return Ok(first_index(rollover, sequence));
+    if track[0] == 1 {
+        next(track[1], sequence)
+    } else {
+        Ok(first_index(rollover, sequence))
     }
-    next(track[1], sequence)
 }
 
 // One index more sent: two words written, the ring as it was. A sender keeps its last index only.

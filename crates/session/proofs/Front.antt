@@ -1,16 +1,14 @@
 -- The fields before the records, read word by word.
 use mathlib.Core.Path.{◌≡◌, refl, sym, ap, ap₂, ◌∙◌}
-use mathlib.Core.List.{List, [], ◌∷◌}
+use mathlib.Core.List.{List, []}
 use Prim.Native.Nat.{ℕ, ◌+◌, ◌<◌}
 use native.Mathlib.Omega.{arith}
-use lib.ListN.{length, get_or, drop, length-drop}
-use lib.Seq.{length-take-le}
-use Rattle.bits.proofs.Lists.{tabulated}
+use lib.ListN.{length, get_or}
 use Rattle.memory.specs.Parts.{part_at, place_in, cut}
 use Rattle.memory.specs.Words.{word, bytes_in, five}
 use Rattle.memory.proofs.Parts.{field-word, field-read}
 use Rattle.packet_cipher.specs.declared.keys.Keys.{Keys}
-use Rattle.session.specs.Memory.{setup_layout, the_ids, the_cipher, the_own_salt, the_header_cipher, the_header_salt, the_inner, the_outer, the_hash, size, setup_at}
+use Rattle.session.specs.Memory.{setup_layout, the_ids, the_cipher, the_own_salt, the_header_cipher, the_header_salt, the_inner, the_outer, the_hash, setup_at}
 
 keys-cong : {a b c d e f g a' b' c' d' e' f' g' : List ℕ} → a ≡ a' → b ≡ b' → c ≡ c' → d ≡ d' → e ≡ e' → f ≡ f' → g ≡ g'
     → ◌≡◌ {A = Keys} (record { cipher = a; salt = b; header_cipher = c; header_salt = d; auth = record { inner = e; outer = f }; hash = g })
@@ -39,18 +37,6 @@ module _ (words : List ℕ) where
       (r ∙ two-words the_header_cipher (omega arith) refl (bytes_in 16)) (t ∙ two-words the_header_salt (omega arith) refl (bytes_in 14))
       (u ∙ ap five (sym (field-read setup_layout the_inner words (omega arith)))) (v ∙ ap five (sym (field-read setup_layout the_outer words (omega arith)))) (w ∙ two-words the_hash (omega arith) refl (bytes_in 16))
 
-  pub ids-read : length words ≡ size
-      → word words (place_in setup_layout the_ids + 0) ∷ word words (place_in setup_layout the_ids + 1) ∷ word words (place_in setup_layout the_ids + 2) ∷ word words (place_in setup_layout the_ids + 3) ∷ []
-      ≡ (setup_at words).ids
+  pub ids-read : part_at (place_in setup_layout the_ids) (get_or setup_layout the_ids 0) words ≡ (setup_at words).ids
   unfolding setup_at
-  ids-read sized =
-      let l : length (get_or (cut setup_layout words) the_ids []) ≡ 4 =
-      ap length (field-read setup_layout the_ids words (omega arith))
-      ∙ length-take-le 4 (drop (place_in setup_layout the_ids) words) (omega (arith, length-drop (place_in setup_layout the_ids) words)) in
-      sym
-      (sym (tabulated 0 4 (get_or (cut setup_layout words) the_ids []) l)
-      ∙ cons-cong (field-word setup_layout the_ids 0 words (omega arith) (omega arith)) (field-word setup_layout the_ids 1 words (omega arith) (omega arith))
-      (field-word setup_layout the_ids 2 words (omega arith) (omega arith)) (field-word setup_layout the_ids 3 words (omega arith) (omega arith)))
-    where
-      cons-cong : {a b c d a' b' c' d' : ℕ} → a ≡ a' → b ≡ b' → c ≡ c' → d ≡ d' → a ∷ b ∷ c ∷ d ∷ [] ≡ a' ∷ b' ∷ c' ∷ d' ∷ []
-      cons-cong p q r t = cc
+  ids-read = sym (field-read setup_layout the_ids words (omega arith))

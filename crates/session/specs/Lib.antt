@@ -7,3 +7,4 @@ pub mod Places
 pub mod Memory
 pub mod Calls
 pub mod RoundTrip
+pub mod Answers

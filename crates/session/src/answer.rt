@@ -1,10 +1,10 @@
 // What the calls give back.
 ghost use Rattle.std.specs.Prelude.{◌≡◌};
-ghost use Rattle.bits.specs.Refusals.{number_of};
+ghost use Rattle.session.specs.Answers.{answer_of};
 
-use bits::refusal::{Refusal, number};
+use bits::refusal::Refusal;
 
-// 0 or the number of a refusal, and the packet's new length: 0 with a refusal.
+// 0 or the number of a refusal, and the packet's new length: 0 with a refusal. Two numbers, as C takes it.
 #[repr(C)]
 #[derive(Clone, Copy)]
 pub struct Answer {
@@ -12,18 +12,16 @@ pub struct Answer {
     pub length: usize,
 }
 
-// The number of a refusal of document 01.
-pub fn code(refusal: Refusal) -> u32
-    ensures { result ≡ number_of refusal }
-{
-    number(refusal) as u32
-}
+impl From<Result<usize, Refusal>> for Answer {
+    ghost from_gives = { λ answer given. given ≡ answer_of answer };
 
-pub fn refused(refusal: Refusal) -> Answer
-    ensures { result ≡ record { number = number_of refusal; length = 0 } }
-{
-    Answer {
-        number: code(refusal),
-        length: 0,
+    fn from(answer: Result<usize, Refusal>) -> Answer {
+        match answer {
+            Ok(length) => Answer { number: 0, length },
+            Err(refusal) => Answer {
+                number: u32::from(refusal),
+                length: 0,
+            },
+        }
     }
 }

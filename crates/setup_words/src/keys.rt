@@ -12,19 +12,14 @@ pub fn session_keys(key: [u8; 16], salt: [u8; 14]) -> Keys
     ensures { result ≡ keys_of key salt }
 {
     let derived = derive(key, salt);
-    let cipher = derived.cipher;
-    let own_salt = derived.salt;
-    let header_cipher = derived.header_cipher;
-    let header_salt = derived.header_salt;
-    let auth_key = derived.auth;
-    let auth = key_states(&auth_key);
-    let hash = subkey(cipher);
+    let auth = key_states(&derived.auth);
+    let hash = subkey(derived.cipher);
     Keys {
-        cipher: cipher,
-        salt: own_salt,
-        header_cipher: header_cipher,
-        header_salt: header_salt,
-        auth: auth,
-        hash: hash,
+        cipher: derived.cipher,
+        salt: derived.salt,
+        header_cipher: derived.header_cipher,
+        header_salt: derived.header_salt,
+        auth,
+        hash,
     }
 }

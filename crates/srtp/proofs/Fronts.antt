@@ -5,7 +5,7 @@ use mathlib.Core.Bool.{Bool, true, false}
 use mathlib.Core.List.{List}
 use Prim.Native.Nat.{ℕ, ◌+◌, ◌≤◌}
 use native.Mathlib.Omega.{arith}
-use borrow.Author.Tests.{ne_eqb, le-ltb, ltb-false}
+use borrow.Author.Tests.{eq-eqb, ne_eqb, le-ltb, ltb-false}
 use lib.Dec.{eqb, ltb}
 use lib.ListN.{length, get_or, take}
 use Rattle.bits.specs.Pick.{pick}
@@ -34,7 +34,7 @@ use Rattle.session.proofs.Places.{first-here, nowhere, stored_there}
 use Rattle.session.proofs.Ways.{in_by, read_by, call_by, effect_is, call-is, outcome-is}
 use Rattle.front.specs.declared.open.Opened.{Opened}
 use Rattle.records.specs.Tracks.{record_in, judged_by}
-use Rattle.front.specs.Opening.{shut, no_memory, open_index, open_at, open_read, open_of}
+use Rattle.front.specs.Opening.{open_index, open_at, open_read, open_of}
 use Rattle.streams.specs.Steps.{effect_at, left_by}
 use Rattle.streams.proofs.Effects.{wire-length, not_taken}
 
@@ -72,12 +72,9 @@ module _ (words buf : List ℕ) (n : ℕ) where
 
   -- ---- what the front answered
 
-  abbrev ended : Way → ℕ → ℕ → Result Layout Refusal → Left
-  ended way number i (Err r) = refused_with number words buf
-  ended way number i (Ok h) = left_by words i buf (effect_at way words i buf n)
-
-  abbrev ended_by : Way → Opened → Left
-  ended_by way o = ended way o.number o.place o.header
+  abbrev ended_by : Way → Result Opened Refusal → Left
+  ended_by way (Err r) = refused_with (number_of r) words buf
+  ended_by way (Ok o) = left_by words o.place buf (effect_at way words o.place buf n)
 
   -- ORDER, WORN, OLD, REPEAT
   index-left : (way : Way) (h : Layout) (i : ℕ) (j : Result ℕ Refusal) → judged_by way (record_in words i) (seq_of (take n buf)) ≡ j
@@ -103,14 +100,14 @@ module _ (words buf : List ℕ) (n : ℕ) where
     read_left Receiving (Ok h) e =
         let z : ltb (length buf) (n + 0) ≡ false = le-ltb (length buf) (n + 0) (omega arith) in
         placed-left Receiving h (place_from 0 s.records x Receiving) refl
-        ∙ sym (ap (λ (b : Bool). ended_by Receiving (pick b (shut refusal.Room) (open_at Receiving words (take n buf) h (place_from 0 s.records x Receiving)))) z)
+        ∙ sym (ap (λ (b : Bool). ended_by Receiving (pick b (Err refusal.Room) (open_at Receiving words (take n buf) h (place_from 0 s.records x Receiving)))) z)
     read_left Sending (Ok h) e =
         let l : wire_length s.setup.suite s.setup.policy buf n ≡ n + added_of Sending (policy_at (word words 0)) (tag_length_of (suite_at (word words 0))) h =
         ap₂ (λ (q : Suite) (p : Policy). wire_length q p buf n) (sym (suite-is words)) (sym (policy-is words)) ∙ wire-length (suite_at (word words 0)) (policy_at (word words 0)) buf n h e in
         rw l (go (ltb (length buf) (n + added_of Sending (policy_at (word words 0)) (tag_length_of (suite_at (word words 0))) h)))
       where
         go : (b : Bool) → settled_by Sending (pick b (refuse refusal.Room) (in_by s.setup buf n Sending (record_for s.records x Sending)))
-            ≡ ended_by Sending (pick b (shut refusal.Room) (open_at Sending words (take n buf) h (place_from 0 s.records x Sending)))
+            ≡ ended_by Sending (pick b (Err refusal.Room) (open_at Sending words (take n buf) h (place_from 0 s.records x Sending)))
         go true = refused-left Sending refusal.Room
         go false = placed-left Sending h (place_from 0 s.records x Sending) refl
 
@@ -119,14 +116,14 @@ module _ (words buf : List ℕ) (n : ℕ) where
   length_by way = pick (ltb (length buf) n) (refuse refusal.Length) (read_by s.setup buf n way (judged_of way (policy_at (word words 0)) (tag_length_of (suite_at (word words 0))) (take n buf)) (record_for s.records x way))
 
   length-left : (way : Way) → settled_by way (length_by way)
-      ≡ ended_by way (pick (ltb (length buf) n) (shut refusal.Length) (open_read way words buf n (judged_of way (policy_at (word words 0)) (tag_length_of (suite_at (word words 0))) (take n buf))))
+      ≡ ended_by way (pick (ltb (length buf) n) (Err refusal.Length) (open_read way words buf n (judged_of way (policy_at (word words 0)) (tag_length_of (suite_at (word words 0))) (take n buf))))
   length-left way = go (ltb (length buf) n) refl
     where
       j : Result Layout Refusal
       j = judged_of way (policy_at (word words 0)) (tag_length_of (suite_at (word words 0))) (take n buf)
 
       go : (b : Bool) → ltb (length buf) n ≡ b → settled_by way (pick b (refuse refusal.Length) (read_by s.setup buf n way j (record_for s.records x way)))
-          ≡ ended_by way (pick b (shut refusal.Length) (open_read way words buf n j))
+          ≡ ended_by way (pick b (Err refusal.Length) (open_read way words buf n j))
       go true e = refused-left way refusal.Length
       go false e = read_left (ltb-false (length buf) n e) way j refl
 
@@ -135,27 +132,18 @@ module _ (words buf : List ℕ) (n : ℕ) where
       call-is way words buf n
       ∙ rw (outcome-is way s buf n, effect_is s.setup buf n way (record_for s.records x way), policy-is words, suite-is words)
 
-  fronted : (way : Way) → call_by way words buf n ≡ ended_by way (open_of way words buf n)
-  unfolding open_of
-  fronted way = sized-call way ∙ go (eqb (length words) size)
-    where
-      go : (b : Bool) → pick b (settled_by way (length_by way)) (refused_with wrong_memory words buf)
-          ≡ ended_by way
-          (pick b
-          (pick (ltb (length buf) n) (shut refusal.Length) (open_read way words buf n (judged_of way (policy_at (word words 0)) (tag_length_of (suite_at (word words 0))) (take n buf))))
-          no_memory)
-      go true = length-left way
-      go false = refl
+  module _ (way : Way) where
+    pub memory-gives : (length words ≡ size → ⊥) → Gives (call_by way words buf n) (record { number = wrong_memory; length = 0 }) buf words
+    memory-gives h = rw (sized-call way, ne_eqb (length words) size h) (record { answer = refl; buffer = refl; words = refl })
 
-  -- ---- the two ends of a call
+    module _ (sized : length words ≡ size) (o : Result Opened Refusal) (opens : o ≡ open_of way words buf n) where
+      ended_so : call_by way words buf n ≡ ended_by way o
+      unfolding open_of
+      ended_so = rw (sized-call way, eq-eqb (length words) size sized) (length-left way ∙ ap (ended_by way) (sym opens))
 
-  module _ (way : Way) (o : Opened) (opens : o ≡ open_of way words buf n) where
-    ended_so : call_by way words buf n ≡ ended_by way o
-    ended_so = fronted way ∙ ap (ended_by way) (sym opens)
+      pub refused-gives : (r : Refusal) → o ≡ Err r → Gives (call_by way words buf n) (record { number = number_of r; length = 0 }) buf words
+      refused-gives r e = rw (ended_so, e) (record { answer = refl; buffer = refl; words = refl })
 
-    pub refused-gives : (r : Refusal) → o.header ≡ Err r → Gives (call_by way words buf n) (record { number = o.number; length = 0 }) buf words
-    refused-gives r e = rw (ended_so, e) (record { answer = refl; buffer = refl; words = refl })
-
-    pub stepped-gives : (h : Layout) → o.header ≡ Ok h → (r : Given) (after memory : List ℕ)
-        → Gives (left_by words o.place buf (effect_at way words o.place buf n)) r after memory → Gives (call_by way words buf n) r after memory
-    stepped-gives h e r after memory g = rw (ended_so, e) g
+      pub stepped-gives : (q : Opened) → o ≡ Ok q → (r : Given) (after memory : List ℕ)
+          → Gives (left_by words q.place buf (effect_at way words q.place buf n)) r after memory → Gives (call_by way words buf n) r after memory
+      stepped-gives q e r after memory g = rw (ended_so, e) g

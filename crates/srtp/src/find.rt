@@ -6,7 +6,7 @@ use rtp::find::locate;
 use rtp_elements::element::found_number;
 use rtp_header::header::{header_number, read_header};
 
-// 0 or the number of a refusal; where in the packet the element's data begins, and how long it is: 0 and 0 with a refusal.
+// 0 or the number of a refusal; where in the packet the element's data begins, and how long it is: 0 and 0 with a refusal. Numbers, as C takes them.
 #[repr(C)]
 #[derive(Clone, Copy)]
 pub struct Part {
@@ -19,7 +19,7 @@ fn no_part(number: u8) -> Part
     ensures { result ≡ record { number = number; begin = 0; length = 0 } }
 {
     Part {
-        number: number as u32,
+        number: u32::from(number),
         begin: 0,
         length: 0,
     }
@@ -29,10 +29,7 @@ fn no_part(number: u8) -> Part
 fn asked_id(id: u32) -> u8
     ensures { result ≡ asked_id id }
 {
-    if 255 < id {
-        return 0;
-    }
-    id as u8
+    if 255 < id { 0 } else { id as u8 }
 }
 
 // The data of the first element with an id.

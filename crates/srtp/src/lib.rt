@@ -2,6 +2,7 @@
 // Follows document 01, "Numbers given back"; RFC 3711, RFC 7714, RFC 9335 and RFC 6904 through the crates below.
 #![tactic(auto)]
 
+mod answer;
 pub mod find;
 pub mod protect;
 pub mod unprotect;

@@ -1,7 +1,8 @@
 // A packet protected in its buffer.
 ghost use Rattle.session.specs.Calls.{Gives, protect_call};
 
-use front::open::{open, unopened};
+use crate::answer::{unopened, wrong_memory};
+use front::open::open;
 use policies::policy::Way;
 use session::answer::Answer;
 use streams::stream::protect_stream;
@@ -11,10 +12,12 @@ use streams::stream::protect_stream;
 pub fn protect(session: &mut [u64], buf: &mut [u8], n: usize) -> Answer
     ensures { Gives (protect_call session.old buf.old n) result buf.new session.new }
 {
-    let opened = open(session, buf, n, Way::Sending);
-    let header = opened.header;
-    let Ok(h) = header else {
-        return unopened(opened);
+    let Some(session) = session.as_mut_array() else {
+        return wrong_memory();
     };
-    protect_stream(session, opened.place, opened.index, buf, n, h)
+    let header = open(session, buf, n, Way::Sending);
+    let Ok(opened) = header else {
+        return unopened(header);
+    };
+    Answer::from(Ok(protect_stream(session, opened, buf, n)))
 }

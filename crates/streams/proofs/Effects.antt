@@ -4,7 +4,6 @@ use mathlib.Core.Path.{◌≡◌, refl, sym, ap, ◌∙◌}
 use mathlib.Core.Bool.{Bool, true, false}
 use mathlib.Core.List.{List}
 use Prim.Native.Nat.{ℕ, ◌+◌, ◌-◌}
-use native.Mathlib.Omega.{arith}
 use lib.ListN.{take}
 use Rattle.bits.specs.Pick.{pick}
 use Rattle.bits.specs.Refusals.{number_of}
@@ -89,9 +88,3 @@ module _ (words : List ℕ) (i : ℕ) (buf : List ℕ) (n : ℕ) where
           let p : tag_fits suite (setup_at words).keys policy (ssrc_of (take n buf)) k (take n buf) ≡ true = sym is_fits ∙ f in
           let a : after ≡ received_as words k buf n = rw f at written in
           rw (received-effect k index, p, a, stored, is_t) (record { answer = refl; buffer = refl; words = refl })
-
--- ---- the packet under the session's keys
-
--- the code's slice of the packet
-pub own-ssrc : (buf : List ℕ) (n ssrc : ℕ) → ssrc ≡ ssrc_of (take (n - 0) buf) → ssrc ≡ ssrc_of (take n buf)
-own-ssrc buf n ssrc e = e ∙ (let z : n - 0 ≡ n = omega arith in rw z)

@@ -3,4 +3,4 @@ use Rattle.adding.proofs.Ends.{fresh-is}
 use Rattle.adding.proofs.add.fresh_record.Goals as goal
 
 pub returns : goal.returns
-returns c = let a = c.args in rw c.head_word.ensures (fresh-is a.ssrc a.way a.rollover)
+returns c = let a = c.args in rw (c.head_word.ensures, c.from.ensures) (fresh-is a.ssrc a.way a.rollover)

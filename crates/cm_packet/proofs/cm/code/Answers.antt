@@ -6,4 +6,4 @@ use Rattle.hmac.specs.Steps.{mac_of}
 use Rattle.cm_packet.proofs.cm.code.Goals as goal
 
 pub returns : goal.returns
-returns c = c.mac.ensures ∙ ap (λ (r : List ℕ). mac_of c.args.states (c.args.body.now ++ r)) c.write32-rollover.ensures
+returns c = c.mac.ensures ∙ ap (λ (r : List ℕ). mac_of c.args.context.now.keys.auth (c.args.body.now ++ r)) c.write32-rollover.ensures

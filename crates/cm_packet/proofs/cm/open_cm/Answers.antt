@@ -9,30 +9,30 @@ use Rattle.wire.proofs.Arriving.{long, read, fits, small, elements, tag-fits, op
 use Rattle.cm_packet.proofs.cm.open_cm.Goals as goal
 
 pub overflow_sub-m : goal.overflow_sub-m
-overflow_sub-m c = omega (arith, long c.args.policy 10 c.args.buf.now c.args.n c.args.h c.requires.1.0 c.requires.1.1)
+overflow_sub-m c = omega (arith, long c.args.context.now.policy 10 c.args.buf.now c.args.n c.args.h c.requires.0 c.requires.1)
 
 pub code-c-requires : goal.code-c-requires
 code-c-requires c =
     let z : c.args.n - 10 - 0 ≡ c.args.n - 10 = omega arith in
-    (c.requires.0, rw z (small c.args.policy 10 c.args.buf.now c.args.n c.args.h c.requires.1.0 c.requires.1.1))
+    rw z (small c.args.context.now.policy 10 c.args.buf.now c.args.n c.args.h c.requires.0 c.requires.1)
 
 pub returns-then-not-same : goal.returns-then-not-same
 returns-then-not-same c =
-    let f = tag-fits c.args.policy 10 c.args.buf.now c.args.n c.args.h c.requires.1.0 c.requires.1.1 CmHmac refl c.args.keys c.args.ssrc c.args.index _ (tag-code c.args.keys c.args.policy c.args.ssrc c.args.index _ _ c.code-c.ensures) in
+    let f = tag-fits c.args.context.now.policy 10 c.args.buf.now c.args.n c.args.h c.requires.0 c.requires.1 CmHmac refl c.args.context.now.keys c.args.context.now.ssrc c.args.context.now.index _ (tag-code c.args.context.now.keys c.args.context.now.policy c.args.context.now.ssrc c.args.context.now.index _ _ c.code-c.ensures) in
     record { value = sym c.if-not-same.true ∙ c.same.ensures ∙ f; buf_after = refl }
 
 pub crypt-requires : goal.crypt-requires
 crypt-requires c =
     let z : c.args.n - 10 - 0 ≡ c.args.n - 10 = omega arith in
     record {
-      h_value = (rw z (read c.args.policy 10 c.args.buf.now c.args.n c.args.h c.requires.1.0 c.requires.1.1), (rw z (fits c.args.policy 10 c.args.buf.now c.args.n c.args.h c.requires.1.0 c.requires.1.1), rw z (small c.args.policy 10 c.args.buf.now c.args.n c.args.h c.requires.1.0 c.requires.1.1)));
-      packet_value = rw z (elements c.args.policy 10 c.args.buf.now c.args.n c.args.h c.requires.1.0 c.requires.1.1);
+      h_value = (rw z (read c.args.context.now.policy 10 c.args.buf.now c.args.n c.args.h c.requires.0 c.requires.1), (rw z (fits c.args.context.now.policy 10 c.args.buf.now c.args.n c.args.h c.requires.0 c.requires.1), rw z (small c.args.context.now.policy 10 c.args.buf.now c.args.n c.args.h c.requires.0 c.requires.1)));
+      packet_value = rw z (elements c.args.context.now.policy 10 c.args.buf.now c.args.n c.args.h c.requires.0 c.requires.1);
     }
 
 pub returns : goal.returns
 returns c =
-    let f = tag-fits c.args.policy 10 c.args.buf.now c.args.n c.args.h c.requires.1.0 c.requires.1.1 CmHmac refl c.args.keys c.args.ssrc c.args.index _ (tag-code c.args.keys c.args.policy c.args.ssrc c.args.index _ _ c.code-c.ensures) in
+    let f = tag-fits c.args.context.now.policy 10 c.args.buf.now c.args.n c.args.h c.requires.0 c.requires.1 CmHmac refl c.args.context.now.keys c.args.context.now.ssrc c.args.context.now.index _ (tag-code c.args.context.now.keys c.args.context.now.policy c.args.context.now.ssrc c.args.context.now.index _ _ c.code-c.ensures) in
     record {
       value = sym c.if-not-same.false ∙ c.same.ensures ∙ f;
-      buf_after = opened c.args.policy 10 c.args.buf.now c.args.n c.args.h c.requires.1.0 c.requires.1.1 CmHmac refl c.args.keys (listed_in c.args.ids.now) c.args.ssrc c.args.index _ c.crypt.ensures;
+      buf_after = opened c.args.context.now.policy 10 c.args.buf.now c.args.n c.args.h c.requires.0 c.requires.1 CmHmac refl c.args.context.now.keys (listed_in c.args.context.now.ids) c.args.context.now.ssrc c.args.context.now.index _ c.crypt.ensures;
     }

@@ -5,4 +5,4 @@ use Rattle.cm_packet.proofs.cm.seal_cm.Goals as goal
 pub returns : goal.returns
 returns c =
     let a = c.args in
-    record { packet_after = c.crypt.ensures; result_value = tag-code a.keys a.policy a.ssrc a.index _ _ c.code.ensures }
+    record { packet_after = c.crypt.ensures; result_value = tag-code a.context.now.keys a.context.now.policy a.context.now.ssrc a.context.now.index _ _ c.code.ensures }

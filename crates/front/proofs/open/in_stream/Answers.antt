@@ -5,37 +5,24 @@ use Rattle.front.proofs.open.in_stream.Goals as goal
 
 pub returns-in_default : goal.returns-in_default
 returns-in_default c =
-    let w = c.args.session.now in
-    let b = c.args.packet.now in
-    let v = c.args.way in
-    let h = c.args.h in
-    rw c.refuse.ensures record {
-      value = no_stream v w b h _ c.ssrc-own.ensures _ c.place_of.ensures.value c.in_default.is;
+    let a = c.args in record {
+      value = no_stream a.way a.session.now a.packet.now a.layout _ c.ssrc.ensures _ c.place_of.ensures.value c.in_default.is;
       in_stream = tt;
     }
 
 pub judge-requires : goal.judge-requires
-judge-requires c =
-    (c.requires.0, rw c.in-Some.is at c.place_of.ensures.inside)
+judge-requires c = rw c.in-Some.is at c.place_of.ensures.inside
 
-pub returns-in-Err : goal.returns-in-Err
-returns-in-Err c =
-    let w = c.args.session.now in
-    let b = c.args.packet.now in
-    let v = c.args.way in
-    let h = c.args.h in
-    rw c.refuse-in-Err.ensures record {
-      value = no_index v w b h _ c.ssrc-own.ensures _ c.place_of.ensures.value _ c.in-Some.is _ _ c.sequence_number-sequence.ensures c.judge.ensures _ c.in-Err.is;
-      in_stream = tt;
-    }
+pub returns-in_err-index-clause-value : goal.returns-in_err-index-clause-value
+returns-in_err-index-clause-value c =
+    let a = c.args in
+    let o = no_index a.way a.session.now a.packet.now a.layout _ c.ssrc.ensures _ c.place_of.ensures.value _ c.in-Some.is _ _ c.sequence_number.ensures c.judge.ensures _ c.in_err-index.was in
+    search (rules, o)
 
-pub returns-in-Ok : goal.returns-in-Ok
-returns-in-Ok c =
-    let w = c.args.session.now in
-    let b = c.args.packet.now in
-    let v = c.args.way in
-    let h = c.args.h in record {
-      value = with-index v w b h _ c.ssrc-own.ensures _ c.place_of.ensures.value _ c.in-Some.is _ _ c.sequence_number-sequence.ensures c.judge.ensures _ c.in-Ok.is;
-      in_stream = is-placed v w b h _ c.ssrc-own.ensures _ c.place_of.ensures.value _ c.in-Some.is _ _ c.sequence_number-sequence.ensures c.judge.ensures _ c.in-Ok.is
-          (rw c.in-Some.is at c.place_of.ensures.inside) (search (rules, c.sequence_number-sequence));
+pub returns : goal.returns
+returns c =
+    let a = c.args in record {
+      value = with-index a.way a.session.now a.packet.now a.layout _ c.ssrc.ensures _ c.place_of.ensures.value _ c.in-Some.is _ _ c.sequence_number.ensures c.judge.ensures _ c.in_ok-index.was;
+      in_stream = is-placed a.way a.session.now a.packet.now a.layout _ c.ssrc.ensures _ c.place_of.ensures.value _ c.in-Some.is _ _ c.sequence_number.ensures c.judge.ensures _ c.in_ok-index.was
+          (rw c.in-Some.is at c.place_of.ensures.inside) (search (rules, c.sequence_number));
     }

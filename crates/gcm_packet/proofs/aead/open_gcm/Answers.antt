@@ -15,13 +15,13 @@ use Rattle.packet_cipher.proofs.Tagging.{tag-gcm}
 use Rattle.gcm_packet.proofs.aead.open_gcm.Goals as goal
 
 pub overflow_sub-m : goal.overflow_sub-m
-overflow_sub-m c = omega (arith, long c.args.policy 16 c.args.buf.now c.args.n c.args.h c.requires.1.0 c.requires.1.1)
+overflow_sub-m c = omega (arith, long c.args.context.now.policy 16 c.args.buf.now c.args.n c.args.h c.requires.0 c.requires.1)
 
 pub tag-made-requires : goal.tag-made-requires
 tag-made-requires c =
     let z : c.args.n - 16 - 0 ≡ c.args.n - 16 = omega arith in
-    let o = portion-order c.is_cryptex.result c.args.h _ (sound-read _ _ (read c.args.policy 16 c.args.buf.now c.args.n c.args.h c.requires.1.0 c.requires.1.1)) (fits c.args.policy 16 c.args.buf.now c.args.n c.args.h c.requires.1.0 c.requires.1.1) in
-    rw (c.encrypted_portion-r.ensures, z) (o.0, (o.1.0, (o.1.1, omega (arith, small c.args.policy 16 c.args.buf.now c.args.n c.args.h c.requires.1.0 c.requires.1.1))))
+    let o = portion-order c.is_cryptex.result c.args.h _ (sound-read _ _ (read c.args.context.now.policy 16 c.args.buf.now c.args.n c.args.h c.requires.0 c.requires.1)) (fits c.args.context.now.policy 16 c.args.buf.now c.args.n c.args.h c.requires.0 c.requires.1) in
+    rw (c.encrypted_portion-r.ensures, z) (o.0, (o.1.0, (o.1.1, omega (arith, small c.args.context.now.policy 16 c.args.buf.now c.args.n c.args.h c.requires.0 c.requires.1))))
 
 pub returns-then-differs : goal.returns-then-differs
 returns-then-differs c =
@@ -29,18 +29,18 @@ returns-then-differs c =
     let z : a.n - 16 - 0 ≡ a.n - 16 = omega arith in
     let body = take (a.n - 16 - 0) (drop 0 a.buf.now) in
     let o = c.encrypted_portion-r.result in
-    let d = read a.policy 16 a.buf.now a.n a.h c.requires.1.0 c.requires.1.1 in
+    let d = read a.context.now.policy 16 a.buf.now a.n a.h c.requires.0 c.requires.1 in
     -- what the test of the tag says
-    let tested : same_of c.tag-made.result (take (a.n - (a.n - 16)) (drop (a.n - 16) a.buf.now)) ≡ tag_fits Gcm a.keys a.policy a.ssrc a.index (take a.n a.buf.now)
-    = tag-fits a.policy 16 a.buf.now a.n a.h c.requires.1.0 c.requires.1.1 Gcm refl a.keys a.ssrc a.index _
-    (tag-gcm a.keys a.policy a.ssrc a.index body o (portion-is a.keys a.policy a.ssrc a.index body a.h (rw z d) _ c.is_cryptex.ensures o c.encrypted_portion-r.ensures) _ _ c.packet_iv-nonce.ensures c.tag-made.ensures) in
+    let tested : same_of c.tag-made.result (take (a.n - (a.n - 16)) (drop (a.n - 16) a.buf.now)) ≡ tag_fits Gcm a.context.now.keys a.context.now.policy a.context.now.ssrc a.context.now.index (take a.n a.buf.now)
+    = tag-fits a.context.now.policy 16 a.buf.now a.n a.h c.requires.0 c.requires.1 Gcm refl a.context.now.keys a.context.now.ssrc a.context.now.index _
+    (tag-gcm a.context.now.keys a.context.now.policy a.context.now.ssrc a.context.now.index body o (portion-is a.context.now.keys a.context.now.policy a.context.now.ssrc a.context.now.index body a.h (rw z d) _ c.is_cryptex.ensures o c.encrypted_portion-r.ensures) _ _ c.packet_iv-nonce.ensures c.tag-made.ensures) in
     record { value = sym c.if-differs.true ∙ c.same-differs.ensures ∙ tested; by_index = λ listed. refl }
 
 pub crypt-requires : goal.crypt-requires
 crypt-requires c =
     let z : c.args.n - 16 - 0 ≡ c.args.n - 16 = omega arith in
-    let o = portion-order c.is_cryptex.result c.args.h _ (sound-read _ _ (read c.args.policy 16 c.args.buf.now c.args.n c.args.h c.requires.1.0 c.requires.1.1)) (fits c.args.policy 16 c.args.buf.now c.args.n c.args.h c.requires.1.0 c.requires.1.1) in
-    rw (c.encrypted_portion-r.ensures, z) (o.0, (o.1.0, (o.1.1, omega (arith, small c.args.policy 16 c.args.buf.now c.args.n c.args.h c.requires.1.0 c.requires.1.1))))
+    let o = portion-order c.is_cryptex.result c.args.h _ (sound-read _ _ (read c.args.context.now.policy 16 c.args.buf.now c.args.n c.args.h c.requires.0 c.requires.1)) (fits c.args.context.now.policy 16 c.args.buf.now c.args.n c.args.h c.requires.0 c.requires.1) in
+    rw (c.encrypted_portion-r.ensures, z) (o.0, (o.1.0, (o.1.1, omega (arith, small c.args.context.now.policy 16 c.args.buf.now c.args.n c.args.h c.requires.0 c.requires.1))))
 
 pub returns : goal.returns
 returns c =
@@ -48,15 +48,15 @@ returns c =
     let z : a.n - 16 - 0 ≡ a.n - 16 = omega arith in
     let body = take (a.n - 16 - 0) (drop 0 a.buf.now) in
     let o = c.encrypted_portion-r.result in
-    let d = read a.policy 16 a.buf.now a.n a.h c.requires.1.0 c.requires.1.1 in
+    let d = read a.context.now.policy 16 a.buf.now a.n a.h c.requires.0 c.requires.1 in
     -- what the test of the tag says
-    let tested : same_of c.tag-made.result (take (a.n - (a.n - 16)) (drop (a.n - 16) a.buf.now)) ≡ tag_fits Gcm a.keys a.policy a.ssrc a.index (take a.n a.buf.now)
-    = tag-fits a.policy 16 a.buf.now a.n a.h c.requires.1.0 c.requires.1.1 Gcm refl a.keys a.ssrc a.index _
-    (tag-gcm a.keys a.policy a.ssrc a.index body o (portion-is a.keys a.policy a.ssrc a.index body a.h (rw z d) _ c.is_cryptex.ensures o c.encrypted_portion-r.ensures) _ _ c.packet_iv-nonce.ensures c.tag-made.ensures) in
+    let tested : same_of c.tag-made.result (take (a.n - (a.n - 16)) (drop (a.n - 16) a.buf.now)) ≡ tag_fits Gcm a.context.now.keys a.context.now.policy a.context.now.ssrc a.context.now.index (take a.n a.buf.now)
+    = tag-fits a.context.now.policy 16 a.buf.now a.n a.h c.requires.0 c.requires.1 Gcm refl a.context.now.keys a.context.now.ssrc a.context.now.index _
+    (tag-gcm a.context.now.keys a.context.now.policy a.context.now.ssrc a.context.now.index body o (portion-is a.context.now.keys a.context.now.policy a.context.now.ssrc a.context.now.index body a.h (rw z d) _ c.is_cryptex.ensures o c.encrypted_portion-r.ensures) _ _ c.packet_iv-nonce.ensures c.tag-made.ensures) in
     record {
       value = sym c.if-differs.false ∙ c.same-differs.ensures ∙ tested;
       by_index = λ listed.
-          opened a.policy 16 a.buf.now a.n a.h c.requires.1.0 c.requires.1.1 Gcm refl a.keys listed a.ssrc a.index _
-          (gcm-pass a.keys a.policy a.ssrc a.index body a.h (rw z d) _ c.is_cryptex.ensures o c.encrypted_portion-r.ensures listed _
-          (c.crypt.ensures ∙ ap (λ (x : List ℕ). sealed_of a.keys.cipher x o.first o.stop o.rest body) c.packet_iv-nonce.ensures));
+          opened a.context.now.policy 16 a.buf.now a.n a.h c.requires.0 c.requires.1 Gcm refl a.context.now.keys listed a.context.now.ssrc a.context.now.index _
+          (gcm-pass a.context.now.keys a.context.now.policy a.context.now.ssrc a.context.now.index body a.h (rw z d) _ c.is_cryptex.ensures o c.encrypted_portion-r.ensures listed _
+          (c.crypt.ensures ∙ ap (λ (x : List ℕ). sealed_of a.context.now.keys.cipher x o.first o.stop o.rest body) c.packet_iv-nonce.ensures));
     }

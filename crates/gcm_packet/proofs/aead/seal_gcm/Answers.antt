@@ -15,13 +15,13 @@ kept e h = omega arith
 
 pub crypt-requires : goal.crypt-requires
 crypt-requires c =
-    let o = portion-order c.is_cryptex.result c.args.h _ (sound-read _ _ c.requires.1.layout) c.requires.1.inside in
-    rw c.encrypted_portion-r.ensures (o.0, (o.1.0, (o.1.1, omega (arith, c.requires.1.small))))
+    let o = portion-order c.is_cryptex.result c.args.h _ (sound-read _ _ c.requires.layout) c.requires.inside in
+    rw c.encrypted_portion-r.ensures (o.0, (o.1.0, (o.1.1, omega (arith, c.requires.small))))
 
 pub tag-requires : goal.tag-requires
 tag-requires c =
-    let o = portion-order c.is_cryptex.result c.args.h _ (sound-read _ _ c.requires.1.layout) c.requires.1.inside in
-    rw c.encrypted_portion-r.ensures (o.0, (o.1.0, (kept (omega arith) o.1.1, omega (arith, c.requires.1.small))))
+    let o = portion-order c.is_cryptex.result c.args.h _ (sound-read _ _ c.requires.layout) c.requires.inside in
+    rw c.encrypted_portion-r.ensures (o.0, (o.1.0, (kept (omega arith) o.1.1, omega (arith, c.requires.small))))
 
 pub returns : goal.returns
 returns c =
@@ -29,8 +29,8 @@ returns c =
     let p = a.packet.now in
     let o = c.encrypted_portion-r.result in
     let q =
-    c.crypt.ensures ∙ ap (λ (x : List ℕ). sealed_of a.keys.cipher x o.first o.stop o.rest p) c.packet_iv-nonce.ensures in record {
-      by_index = λ listed. gcm-pass a.keys a.policy a.ssrc a.index p a.h c.requires.1.layout _ c.is_cryptex.ensures o c.encrypted_portion-r.ensures listed _ q;
-      value = tag-gcm a.keys a.policy a.ssrc a.index _ o
-          (sealed-portion a.keys a.policy a.ssrc a.index p a.h c.requires.1.layout _ c.is_cryptex.ensures o c.encrypted_portion-r.ensures _ q) _ _ c.packet_iv-nonce.ensures c.tag.ensures;
+    c.crypt.ensures ∙ ap (λ (x : List ℕ). sealed_of a.context.now.keys.cipher x o.first o.stop o.rest p) c.packet_iv-nonce.ensures in record {
+      by_index = λ listed. gcm-pass a.context.now.keys a.context.now.policy a.context.now.ssrc a.context.now.index p a.h c.requires.layout _ c.is_cryptex.ensures o c.encrypted_portion-r.ensures listed _ q;
+      value = tag-gcm a.context.now.keys a.context.now.policy a.context.now.ssrc a.context.now.index _ o
+          (sealed-portion a.context.now.keys a.context.now.policy a.context.now.ssrc a.context.now.index p a.h c.requires.layout _ c.is_cryptex.ensures o c.encrypted_portion-r.ensures _ q) _ _ c.packet_iv-nonce.ensures c.tag.ensures;
     }

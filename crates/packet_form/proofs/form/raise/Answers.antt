@@ -4,7 +4,8 @@ use mathlib.Core.List.{List, ◌++◌}
 use Prim.Native.Nat.{ℕ, ◌+◌}
 use native.Mathlib.Omega.{arith}
 use lib.ListN.{take-append-drop, drop}
-use Rattle.wire.proofs.Tagging.{not-added, places, first_below, is-added}
+use Rattle.packet_cipher.proofs.Passes.{sound-read}
+use Rattle.wire.proofs.Tagging.{read, not-added, places, first_below, is-added}
 use Rattle.packet_form.proofs.Shaping.{raised, not-raised}
 use Rattle.packet_form.proofs.form.raise.Goals as goal
 
@@ -29,7 +30,8 @@ returns-then-adds_block c =
     record {
       length_value = rw a;
       buf_after = c.add_block.ensures ∙ ap (λ (l : List ℕ). l ++ drop (c.args.n + 4) c.args.buf.now) g;
-      shaped = raised c.args.policy c.args.buf.now c.args.n c.args.h c.requires.n_in_bounds.0 c.requires.n_in_bounds.1 a;
+      shaped = rw (sound-read _ _ (read c.requires.n_in_bounds.1.t c.args.policy c.args.buf.now c.args.n c.args.h c.requires.n_in_bounds.0 c.requires.n_in_bounds.1.judged)).contributors
+          (raised c.args.policy c.args.buf.now c.args.n c.args.h c.requires.n_in_bounds.0 c.requires.n_in_bounds.1 a);
     }
 
 pub returns : goal.returns

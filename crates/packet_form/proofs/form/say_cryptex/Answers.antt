@@ -15,7 +15,7 @@ returns-then-sends_cryptex c =
     let u = sym c.sends_cryptex.ensures ∙ c.if-sends_cryptex.true in
     record {
       packet_after = c.write_tag.ensures ∙ is-tagged c.args.packet.now c.args.h c.requires.layout c.args.policy _ u c.cryptex_tag-tag.ensures;
-      shaped = says c.args.policy c.args.packet.now c.args.h c.requires _ u c.cryptex_tag-tag.ensures;
+      shaped = rw (and_right (uses_cryptex c.args.policy) c.args.h.x u) (says c.args.policy c.args.packet.now c.args.h c.requires _ u c.cryptex_tag-tag.ensures);
     }
 
 pub returns : goal.returns

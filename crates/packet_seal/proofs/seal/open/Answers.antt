@@ -16,5 +16,5 @@ pub returns-in-Gcm : goal.returns-in-Gcm
 returns-in-Gcm c =
     rw c.in-Gcm.is record {
       value = c.open_gcm.ensures.value;
-      buf_after = c.open_gcm.ensures.by_index (listed_in c.args.ids.now);
+      buf_after = c.open_gcm.ensures.by_index (listed_in c.args.context.now.ids);
     }

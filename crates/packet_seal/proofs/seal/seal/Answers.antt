@@ -10,6 +10,6 @@ returns-in-CmHmac c =
 pub returns-in-Gcm : goal.returns-in-Gcm
 returns-in-Gcm c =
     rw c.in-Gcm.is record {
-      packet_after = c.seal_gcm.ensures.by_index (listed_in c.args.ids.now);
+      packet_after = c.seal_gcm.ensures.by_index (listed_in c.args.context.now.ids);
       result_value = c.in_front.ensures ∙ c.seal_gcm.ensures.value;
     }

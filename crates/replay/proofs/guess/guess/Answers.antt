@@ -1,20 +1,15 @@
--- `replay::guess::guess` meets its contract: the tests that lead to each return.
-use borrow.Author.Tests.{lt-ltb, le-ltb}
-use Rattle.replay.specs.Steps.{offset_of}
+-- `replay::guess::guess` meets its contract: the definition in each of the code's cases.
+use native.Mathlib.Omega.{arith}
+use Rattle.std.proofs.lemmas.Int.{ints}
+use Rattle.replay.proofs.Guesses.{one_back, one_on, same_rollover}
 use Rattle.replay.proofs.guess.guess.Goals as goal
 
-pub returns-then-s-seq : goal.returns-then-s-seq
-unfolding offset_of
-returns-then-s-seq c = simp (lt-ltb _ _ c.if-s-lt32768.true, lt-ltb _ _ c.if-s-seq.true)
+pub returns-then-ahead-gt32768 : goal.returns-then-ahead-gt32768
+returns-then-ahead-gt32768 c = rw (one_back c.args.highest c.args.sequence (omega arith) (omega (arith, ints))) (omega (arith, ints))
 
-pub returns-then-s-lt32768 : goal.returns-then-s-lt32768
-unfolding offset_of
-returns-then-s-lt32768 c = simp (lt-ltb _ _ c.if-s-lt32768.true, le-ltb _ _ c.if-s-seq.false)
+pub returns-then-ahead-ltminus32768 : goal.returns-then-ahead-ltminus32768
+returns-then-ahead-ltminus32768 c = rw (one_on c.args.highest c.args.sequence (omega arith) (omega (arith, ints))) (omega (arith, ints))
 
-pub returns-then-seq-s : goal.returns-then-seq-s
-unfolding offset_of
-returns-then-seq-s c = simp (le-ltb _ _ c.if-s-lt32768.false, lt-ltb _ _ c.if-seq-s.true)
-
-pub returns : goal.returns
-unfolding offset_of
-returns c = simp (le-ltb _ _ c.if-s-lt32768.false, le-ltb _ _ c.if-seq-s.false)
+pub returns-else-ahead-ltminus32768 : goal.returns-else-ahead-ltminus32768
+returns-else-ahead-ltminus32768 c =
+    rw (same_rollover c.args.highest c.args.sequence (omega arith) (omega (arith, ints)) (omega (arith, ints))) (omega (arith, ints))

@@ -1,11 +1,6 @@
 -- `replay::receive::accept` meets its contract.
-use native.Mathlib.Omega.{arith}
-use lib.ListN.{length-set}
 use Rattle.replay.proofs.Words.{rest, accepted}
 use Rattle.replay.proofs.receive.accept.Goals as goal
-
-pub bounds-track-1-2 : goal.bounds-track-1-2
-bounds-track-1-2 c = simp length-set (omega arith)
 
 pub returns : goal.returns
 returns c =

@@ -4,8 +4,8 @@ use Rattle.replay.proofs.ring.block.Goals as goal
 
 pub returns-then-ring-place : goal.returns-then-ring-place
 returns-then-ring-place c =
-    block-away c.args.ring.now c.requires c.args.number c.place_of-place.result c.place_of-place.ensures.value c.if-ring-place.true
+    block_here c.args.ring.now c.requires c.args.number c.place_of-place.result c.place_of-place.ensures.value c.if-ring-place.true
 
-pub returns : goal.returns
-returns c =
-    block_here c.args.ring.now c.requires c.args.number c.place_of-place.result c.place_of-place.ensures.value c.if-ring-place.false
+pub returns-else-ring-place : goal.returns-else-ring-place
+returns-else-ring-place c =
+    block-away c.args.ring.now c.requires c.args.number c.place_of-place.result c.place_of-place.ensures.value c.if-ring-place.false

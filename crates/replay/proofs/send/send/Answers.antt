@@ -3,13 +3,12 @@ use mathlib.Core.Path.{sym, ◌∙◌}
 use Rattle.replay.proofs.Words.{first-send, later-send}
 use Rattle.replay.proofs.send.send.Goals as goal
 
-pub returns-then-track-ne1 : goal.returns-then-track-ne1
-returns-then-track-ne1 c =
+pub returns-then-track-eq1 : goal.returns-then-track-eq1
+returns-then-track-eq1 c =
     let a = c.args in
-    rw c.first_index.ensures (sym (first-send a.track.now a.rollover a.sequence c.if-track-ne1.true))
+    c.next.ensures ∙ sym (later-send a.track.now a.rollover a.sequence c.if-track-eq1.true)
 
-pub returns : goal.returns
-returns c =
-    let e = c in
-    let a = e.args in
-    c.next.ensures ∙ sym (later-send a.track.now a.rollover a.sequence e.if-track-ne1.false)
+pub returns-else-track-eq1 : goal.returns-else-track-eq1
+returns-else-track-eq1 c =
+    let a = c.args in
+    rw c.first_index.ensures (sym (first-send a.track.now a.rollover a.sequence c.if-track-eq1.false))

@@ -4,5 +4,5 @@ use Rattle.session.proofs.load.keys_of.Goals as goal
 
 pub returns : goal.returns
 returns c =
-    keys-read c.args.session.now c.bytes16-cipher.ensures c.bytes14-salt.ensures c.bytes16-header_cipher.ensures
-    c.bytes14-header_salt.ensures c.five_at-inner.ensures c.five_at-outer.ensures c.bytes16-hash.ensures
+    keys-read c.args.session.now c.bytes_at.ensures c.bytes_at-2.ensures c.bytes_at-3.ensures c.bytes_at-4.ensures c.five_at.ensures
+    c.five_at-2.ensures c.bytes_at-5.ensures

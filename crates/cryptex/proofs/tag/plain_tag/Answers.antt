@@ -1,9 +1,0 @@
--- `cryptex::tag::plain_tag` meets its contract.
-use borrow.Author.Tests.{eq-eqb, ne_eqb}
-use Rattle.cryptex.proofs.tag.plain_tag.Goals as goal
-
-pub returns-then-tag-eq49374 : goal.returns-then-tag-eq49374
-returns-then-tag-eq49374 c = simp (eq-eqb _ _ c.if-tag-eq49374.true)
-
-pub returns : goal.returns
-returns c = simp (ne_eqb _ _ c.if-tag-eq49374.false)

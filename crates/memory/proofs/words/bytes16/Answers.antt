@@ -1,5 +1,0 @@
--- `memory::words::bytes16` meets its contract.
-use Rattle.memory.proofs.words.bytes16.Goals as goal
-
-pub returns : goal.returns
-returns c = rw (c.write64-p.ensures, c.write64-q.ensures)
