@@ -1,39 +1,11 @@
 // Bytes as an array of a given length.
-ghost use Rattle.std.specs.Prelude.{◌≤◌};
+ghost use Rattle.std.specs.Prelude.{◌≡◌, ◌++◌, ◌-◌, length, take, replicate};
 
-fn least(a: usize, b: usize) -> usize
-    ensures { (result ≤ a) × (result ≤ b) }
+use bits::arrays::filled;
+
+// The first N; zeros where there are fewer.
+pub fn padded<const N: usize>(bytes: &[u8]) -> [u8; N]
+    ensures { result ≡ take N bytes.now ++ replicate (N - length bytes.now) 0 }
 {
-    if a < b { a } else { b }
-}
-
-// As many bytes as both have.
-fn copy_bytes(to: &mut [u8], from: &[u8]) {
-    let n = least(to.len(), from.len());
-    let mut i: usize = 0;
-    while i < n {
-        to[i] = from[i];
-        i += 1;
-    }
-}
-
-// The first sixteen; zeros where there are fewer.
-pub fn array16(b: &[u8]) -> [u8; 16] {
-    let mut a = [0u8; 16];
-    copy_bytes(&mut a, b);
-    a
-}
-
-// The first fourteen; zeros where there are fewer.
-pub fn array14(b: &[u8]) -> [u8; 14] {
-    let mut a = [0u8; 14];
-    copy_bytes(&mut a, b);
-    a
-}
-
-// The first twelve; zeros where there are fewer.
-pub fn array12(b: &[u8]) -> [u8; 12] {
-    let mut a = [0u8; 12];
-    copy_bytes(&mut a, b);
-    a
+    filled(&bytes[..bytes.len().min(N)])
 }

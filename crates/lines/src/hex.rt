@@ -1,45 +1,37 @@
 // Bytes written as hex digits in lower case.
-ghost use Rattle.std.specs.Prelude.{◌≤◌, length};
+use arrayvec::ArrayVec;
+use std::fmt;
+use text::reading::{array, bytes};
 
-use crate::cut::behind;
-use std::io;
-use text::reading::bytes;
-use text::words::place_of;
-
-// How many bytes a word has, and where the next word begins.
+// Bytes to be printed, two digits each. No bytes are no digits, where a line of the call script has a dash.
 #[derive(Clone, Copy)]
-pub struct Field {
-    pub length: usize,
-    pub next: usize,
-}
+pub struct Hex<'a>(pub &'a [u8]);
 
-// The word that begins at a place.
-pub fn read_word(line: &[u8], from: usize, out: &mut [u8]) -> Field
-    requires { from ≤ length line.now }
-    ensures { (result.length ≤ length out.new) × (result.next ≤ length line.now) }
-{
-    let end = place_of(line, from, b' ');
-    let read = bytes(&line[from..end], out);
-    Field {
-        length: read.length,
-        next: behind(line, from, b' '),
+impl fmt::Display for Hex<'_> {
+    fn fmt<W: fmt::Write>(&self, f: &mut fmt::Formatter<W>) -> fmt::Result {
+        for byte in self.0 {
+            write!(f, "{byte:02x}")?;
+        }
+        Ok(())
     }
 }
 
-fn put_byte(rt: &impl Print, x: u8) -> io::Result<()> {
-    print!(rt; "{x:02x}")
+// The bytes of a word; none where it is no hex, or has more than N.
+pub fn word<const N: usize>(word: &[u8]) -> ArrayVec<u8, N> {
+    bytes(word).unwrap_or_default()
 }
 
-pub fn put(rt: &impl Print, bytes: &[u8]) -> io::Result<()> {
-    let mut i: usize = 0;
-    while i < bytes.len() {
-        put_byte(rt, bytes[i])?;
-        i += 1;
+// The bytes of a word up to the first two digits that are none, with zeros after them; zeros alone where its digits are odd in number or make more than N.
+pub fn padded<const N: usize>(word: &[u8]) -> [u8; N] {
+    let mut padded = [0; N];
+    let (pairs, odd) = word.as_chunks::<2>();
+    if odd.is_empty() && pairs.len() <= N {
+        let bytes = pairs
+            .iter()
+            .map_while(|pair| array(pair).map(u8::from_be_bytes));
+        for (to, byte) in padded.iter_mut().zip(bytes) {
+            *to = byte;
+        }
     }
-    Ok(())
-}
-
-pub fn put_line(rt: &impl Print, bytes: &[u8]) -> io::Result<()> {
-    put(rt, bytes)?;
-    rt.write_all(b"\n")
+    padded
 }

@@ -4,7 +4,6 @@
 
 pub mod arrays;
 pub mod asked;
-pub mod cut;
 pub mod hex;
 pub mod number;
 pub mod outcome;

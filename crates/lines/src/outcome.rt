@@ -1,26 +1,48 @@
 // What a call came to, as the end of a line of output.
-use std::io;
+use bits::refusal::Refusal;
+use std::{fmt, io};
 
-// A word and a number, as "length 46"; or "refused 8" with document 01's number.
-fn put(rt: &impl Print, refused: u32, word: &[u8], number: u64) -> io::Result<()> {
-    if refused == 0 {
-        rt.write_all(word)?;
-        print!(rt; "{number}")
-    } else {
-        print!(rt; "refused {refused}")
+// What was called for.
+#[derive(Clone, Copy)]
+pub enum Told {
+    Index(u64),
+    Length(usize),
+    GivenBack { length: usize, payload: u8 },
+}
+
+impl fmt::Display for Told {
+    fn fmt<W: fmt::Write>(&self, f: &mut fmt::Formatter<W>) -> fmt::Result {
+        match self {
+            Told::Index(index) => write!(f, "index {index}"),
+            Told::Length(length) => write!(f, "length {length}"),
+            Told::GivenBack { length, payload } => write!(
+                f,
+                "given back, length {length}, payload {payload}"
+            ),
+        }
     }
 }
 
-pub fn one(rt: &impl Print, refused: u32, word: &[u8], number: u64) -> io::Result<()> {
-    put(rt, refused, word, number)?;
-    rt.write_all(b"\n")
+// A refusal, by document 01's number.
+#[derive(Clone, Copy)]
+pub struct Refused(pub u32);
+
+impl From<Refusal> for Refused {
+    fn from(refusal: Refusal) -> Self {
+        Refused(u32::from(refusal))
+    }
 }
 
-// "given back, length 13, payload 1".
-pub fn given_back(rt: &impl Print, refused: u32, length: usize, payload: u8) -> io::Result<()> {
-    put(rt, refused, b"given back, length ", length as u64)?;
-    if refused == 0 {
-        put(rt, refused, b", payload ", payload as u64)?;
+impl fmt::Display for Refused {
+    fn fmt<W: fmt::Write>(&self, f: &mut fmt::Formatter<W>) -> fmt::Result {
+        let number = self.0;
+        write!(f, "refused {number}")
     }
-    rt.write_all(b"\n")
+}
+
+pub fn put_line(rt: &impl Print, outcome: Result<Told, Refused>) -> io::Result<()> {
+    match outcome {
+        Ok(told) => println!(rt; "{told}"),
+        Err(refused) => println!(rt; "{refused}"),
+    }
 }

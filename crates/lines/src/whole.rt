@@ -1,22 +1,15 @@
-// An input as a whole, as far as a buffer holds it.
-ghost use Rattle.std.specs.Prelude.{◌≡◌, ◌≤◌, length, IfOk, OnErr};
+// An input as a whole.
+ghost use Rattle.std.specs.Prelude.{◌≡◌, take, IfOk, IfSome};
 
+use std::alloc::Global;
 use std::io;
 use std::io::Read;
 
-// Reads until the buffer is full or the input ends, and gives back how many bytes it put at the buffer's start. The one error is that of a read that
-// failed; what the buffer then holds is not told.
-pub fn read_full(input: &mut impl Read, buf: &mut [u8]) -> io::Result<usize>
-    ensures ok { IfOk result (λ n. n ≤ length buf.new) }
-    ensures err { OnErr result (length buf.new ≡ length buf.old) }
+// What is read of an input until it ends or so many bytes are there. The one error is that of memory or of a read that failed.
+pub fn beginning<R: Read + Drop>(alloc: Global, input: R, most: u64) -> io::Result<Vec<u8>>
+    ensures { IfOk result (λ text. IfSome (R.remaining input) (λ bytes. text.items ≡ take most bytes)) }
 {
-    let mut done: usize = 0;
-    while done < buf.len() {
-        let got = input.read(&mut buf[done..])?;
-        if got == 0 {
-            return Ok(done);
-        }
-        done += got;
-    }
-    Ok(done)
+    let mut text = Vec::new(alloc);
+    input.take(most).read_to_end(&mut text)?;
+    Ok(text)
 }

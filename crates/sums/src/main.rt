@@ -5,53 +5,60 @@
 mod indices;
 mod packets;
 
-use lines::asked::ask;
-use lines::cut::first;
-use lines::whole::read_full;
-use session::layout::SIZE;
+use lines::asked::Asked;
+use lines::whole::beginning;
+use packets::Pair;
 use std::io;
-use text::words::place_of;
 
-// A sum of the numbers in a line's name and, of packets, the hex behind it. Which one it is, the first letter says: G and h ask what a receiver makes
-// of a SEQ, p and a which length fits, A which room, and i is a packet from one session to the other.
-fn answer(
-    rt: &impl Print,
-    line: &[u8],
-    sender: &mut [u64],
-    receiver: &mut [u64],
-) -> io::Result<()> {
-    let asked = ask(rt, line, b": ")?;
-    let before = asked.before;
-    let last = asked.last;
-    let at = asked.data;
-    let hex = &line[at..];
-    match first(line) {
-        b'S' => indices::sent(rt, before, last),
-        b'p' => packets::protected(rt, 0, hex, last as usize, 4096),
-        b'a' => packets::protected(rt, 1, hex, last as usize, 4096),
-        b'A' => packets::protected(rt, 1, hex, hex.len() / 2, last as usize),
-        b'i' => packets::passes(rt, sender, receiver, hex),
-        _ => indices::received(rt, before, last),
+// No more of the input is read.
+const MOST: u64 = 4096;
+
+// What a sum is about.
+#[derive(Clone, Copy)]
+enum Sum {
+    Received,
+    Sent,
+    Length { policy: u64 },
+    Room,
+    Passed,
+}
+
+impl Sum {
+    // The first letter of a line says it: G and h ask what a receiver makes of a SEQ, S what a sender does, p and a which length fits, A which room, and i
+    // is a packet from one session to the other.
+    fn of(line: &[u8]) -> Self {
+        match line.first() {
+            Some(b'S') => Sum::Sent,
+            Some(b'p') => Sum::Length { policy: 0 },
+            Some(b'a') => Sum::Length { policy: 1 },
+            Some(b'A') => Sum::Room,
+            Some(b'i') => Sum::Passed,
+            _ => Sum::Received,
+        }
     }
 }
 
-// The packets pass between the same two sessions.
-fn run(rt: &impl Print, text: &[u8], sender: &mut [u64], receiver: &mut [u64]) -> io::Result<()> {
-    let mut from: usize = 0;
-    while from < text.len() {
-        let end = place_of(text, from, b'\n');
-        answer(rt, &text[from..end], sender, receiver)?;
-        from = end + 1;
+// A sum of the numbers in a line's name and, of packets, the hex behind it.
+fn answer(rt: &impl Print, line: &[u8], pair: &mut Pair) -> io::Result<()> {
+    let asked = Asked::from(line);
+    let hex = asked.given;
+    let (before, last) = asked.numbers();
+    rt.write_all(asked.name)?;
+    print!(rt; ": ")?;
+    match Sum::of(line) {
+        Sum::Received => indices::received(rt, before, last),
+        Sum::Sent => indices::sent(rt, before, last),
+        Sum::Length { policy } => packets::protected(rt, policy, hex, last as usize, 4096),
+        Sum::Room => packets::protected(rt, 1, hex, hex.len() / 2, last as usize),
+        Sum::Passed => pair.pass(rt, hex),
     }
-    Ok(())
 }
 
 fn main(rt: HostRuntime) -> io::Result<()> {
-    let mut text = [0u8; 4096];
-    let n = read_full(&mut rt.stdin(), &mut text)?;
-    let mut sender = [0u64; SIZE];
-    let mut receiver = [0u64; SIZE];
-    packets::begin(&mut sender, 0, 0);
-    packets::begin(&mut receiver, 0, 1);
-    run(&rt, &text[..n], &mut sender, &mut receiver)
+    let text = beginning(rt.alloc(), rt.stdin(), MOST)?;
+    let mut pair = Pair::new();
+    for line in text.split_inclusive(|b| *b == b'\n') {
+        answer(&rt, line.strip_suffix(b"\n").unwrap_or(line), &mut pair)?;
+    }
+    Ok(())
 }

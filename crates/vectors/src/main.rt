@@ -5,77 +5,123 @@
 
 use cipher_vectors::{ciphers, hashes, sealed};
 use extension_vectors::extensions;
-use lines::asked::take_apart;
-use lines::whole::read_full;
-use packet_vectors::packets;
+use lines::asked::Asked;
+use lines::hex;
+use lines::whole::beginning;
+use packet_vectors::packets::{Setup, both_ways};
 use std::io;
 use suites::suite::Suite;
-use text::words::place_of;
 
-// A vector of up to three words of hex. What they are for, the first letter of the word behind the name says: aes, sha1, repeated, hmac, keystream,
-// neighbours, derived, gcm, pad, mask, element, cryptex or both; with GCM wire. `number` is the last one in the name.
+// No more of the input is read.
+const MOST: u64 = 65536;
+
+// What a vector is of.
+#[derive(Clone, Copy)]
+enum Kind {
+    Aes,
+    Sha1,
+    Repeated,
+    Hmac,
+    Keystream,
+    Neighbours,
+    Derived,
+    Gcm,
+    Pad,
+    Mask,
+    Element,
+    Cryptex,
+    Both,
+    Wire,
+}
+
+impl Kind {
+    // The first letter of the word behind the name says it: aes, sha1, repeated, hmac, keystream, neighbours, derived, gcm, pad, mask, element, cryptex or
+    // both; with GCM wire.
+    fn of(word: &[u8]) -> Option<Self> {
+        match word.first()? {
+            b'a' => Some(Kind::Aes),
+            b's' => Some(Kind::Sha1),
+            b'r' => Some(Kind::Repeated),
+            b'h' => Some(Kind::Hmac),
+            b'k' => Some(Kind::Keystream),
+            b'n' => Some(Kind::Neighbours),
+            b'd' => Some(Kind::Derived),
+            b'g' => Some(Kind::Gcm),
+            b'p' => Some(Kind::Pad),
+            b'm' => Some(Kind::Mask),
+            b'e' => Some(Kind::Element),
+            b'c' => Some(Kind::Cryptex),
+            b'b' => Some(Kind::Both),
+            b'w' => Some(Kind::Wire),
+            _ => None,
+        }
+    }
+}
+
+// A vector of up to three words of hex, the third of which may be changed.
 fn vector(
     rt: &impl Print,
-    kind: u8,
-    number: u64,
-    name: &[u8],
+    kind: Kind,
+    asked: &Asked,
     a: &[u8],
     b: &[u8],
     c: &mut [u8],
 ) -> io::Result<()> {
+    let name = asked.name;
+    let (_, number) = asked.numbers();
+    let setup = |policy, suite| Setup {
+        policy,
+        suite,
+        key: a,
+        salt: b,
+    };
     match kind {
-        b'a' => ciphers::block(rt, a, b),
-        b's' => hashes::hash(rt, a),
-        b'r' => hashes::repeated(rt),
-        b'h' => hashes::code(rt, a, b),
-        b'k' => ciphers::keystream(rt, a, b, number),
-        b'n' => ciphers::neighbours(rt, a, b, number),
-        b'd' => ciphers::derived(rt, a, b, number),
-        b'g' => sealed::sealed(rt, a, b, number, c),
-        b'p' => extensions::pad(rt, a, b),
-        b'm' => extensions::masked(rt, a, b, c),
-        b'e' => extensions::element(rt, a, number),
-        b'c' => packets::both_ways(rt, name, 1, Suite::CmHmac, a, b, c),
-        b'b' => packets::both_ways(rt, name, number, Suite::CmHmac, a, b, c),
-        b'w' => packets::both_ways(rt, name, number, Suite::Gcm, a, b, c),
-        _ => Ok(()),
+        Kind::Aes => ciphers::block(rt, a, b),
+        Kind::Sha1 => hashes::hash(rt, a),
+        Kind::Repeated => hashes::repeated(rt),
+        Kind::Hmac => hashes::code(rt, a, b),
+        Kind::Keystream => ciphers::keystream(rt, a, b, number),
+        Kind::Neighbours => ciphers::neighbours(rt, a, b, number),
+        Kind::Derived => ciphers::derived(rt, a, b, number),
+        Kind::Gcm => sealed::sealed(rt, a, b, number, c),
+        Kind::Pad => extensions::pad(rt, a, b),
+        Kind::Mask => extensions::masked(rt, a, b, c),
+        Kind::Element => extensions::element(rt, a, number),
+        Kind::Cryptex => both_ways(rt, name, &setup(1, Suite::CmHmac), c),
+        Kind::Both => both_ways(rt, name, &setup(number, Suite::CmHmac), c),
+        Kind::Wire => both_ways(rt, name, &setup(number, Suite::Gcm), c),
     }
 }
 
 // A line's name is printed, and then what the code makes of its words.
-fn take(rt: &impl Print, line: &[u8], a: &mut [u8], b: &mut [u8], c: &mut [u8]) -> io::Result<()> {
-    let parts = take_apart(rt, line, a, b, c)?;
-    let name = parts.name;
-    let first = parts.first;
-    let second = parts.second;
-    let third = parts.third;
+fn answer(rt: &impl Print, line: &[u8]) -> io::Result<()> {
+    if line.starts_with(b"#") {
+        return Ok(());
+    }
+    let asked = Asked::from(line);
+    rt.write_all(asked.name)?;
+    print!(rt; " ")?;
+    let mut words = asked.given.split(|b| *b == b' ');
+    let Some(kind) = words.next().and_then(Kind::of) else {
+        return Ok(());
+    };
+    let a = hex::word::<256>(words.next().unwrap_or_default());
+    let b = hex::word::<256>(words.next().unwrap_or_default());
+    let mut c = hex::word::<256>(words.next().unwrap_or_default());
     vector(
         rt,
-        parts.kind,
-        parts.number,
-        &line[0..name],
-        &a[0..first],
-        &b[0..second],
-        &mut c[0..third],
+        kind,
+        &asked,
+        a.as_slice(),
+        b.as_slice(),
+        c.as_mut_slice(),
     )
 }
 
-// The lines of a text, with room for what their words hold.
-fn run(rt: &impl Print, text: &[u8], a: &mut [u8], b: &mut [u8], c: &mut [u8]) -> io::Result<()> {
-    let mut from: usize = 0;
-    while from < text.len() {
-        let end = place_of(text, from, b'\n');
-        take(rt, &text[from..end], a, b, c)?;
-        from = end + 1;
+fn main(rt: HostRuntime) -> io::Result<()> {
+    let text = beginning(rt.alloc(), rt.stdin(), MOST)?;
+    for line in text.split_inclusive(|b| *b == b'\n') {
+        answer(&rt, line.strip_suffix(b"\n").unwrap_or(line))?;
     }
     Ok(())
-}
-
-fn main(rt: HostRuntime) -> io::Result<()> {
-    let mut text = [0u8; 65536];
-    let n = read_full(&mut rt.stdin(), &mut text)?;
-    let mut a = [0u8; 256];
-    let mut b = [0u8; 256];
-    let mut c = [0u8; 256];
-    run(&rt, &text[..n], &mut a, &mut b, &mut c)
 }
