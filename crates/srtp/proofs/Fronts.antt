@@ -10,6 +10,7 @@ use lib.Dec.{eqb, ltb}
 use lib.ListN.{length, get_or, take}
 use Rattle.bits.specs.Pick.{pick}
 use Rattle.bits.specs.Refusals.{number_of, wrong_memory}
+use Rattle.bits.specs.declared.refusal.Border.TheVariants as border
 use Rattle.bits.specs.declared.refusal.Refusal.{Refusal}
 use Rattle.bits.specs.declared.refusal.Refusal.TheVariants as refusal
 use Rattle.bits.proofs.Refusals.{above_zero}
@@ -33,8 +34,10 @@ use Rattle.session.proofs.Memory.{made, policy-is, suite-is, placed-made}
 use Rattle.session.proofs.Places.{first-here, nowhere, stored_there}
 use Rattle.session.proofs.Ways.{in_by, read_by, call_by, effect_is, call-is, outcome-is}
 use Rattle.front.specs.declared.open.Opened.{Opened}
+use Rattle.front.specs.declared.open.Shut.{Shut}
+use Rattle.front.specs.declared.open.Shut.TheVariants.{Border}
 use Rattle.records.specs.Tracks.{record_in, judged_by}
-use Rattle.front.specs.Opening.{open_index, open_at, open_read, in_session_of}
+use Rattle.front.specs.Opening.{open_index, open_at, open_read, in_session_of, shut_by, shut_number, open_of}
 use Rattle.streams.specs.Steps.{effect_at, left_by}
 use Rattle.streams.proofs.Effects.{wire-length, not_taken}
 
@@ -132,18 +135,29 @@ module _ (words buf : List ℕ) (n : ℕ) where
       call-is way words buf n
       ∙ rw (outcome-is way s buf n, effect_is s.setup buf n way (record_for s.records x way), policy-is words, suite-is words)
 
-  module _ (way : Way) where
-    pub memory-gives : (length words ≡ size → ⊥) → Gives (call_by way words buf n) (record { number = wrong_memory; length = 0 }) buf words
-    memory-gives h = rw (sized-call way, ne_eqb (length words) size h) (record { answer = refl; buffer = refl; words = refl })
+  -- ---- what the front answered to any memory
 
-    module _ (sized : length words ≡ size) (o : Result Opened Refusal) (opens : o ≡ in_session_of way words buf n) where
-      ended_so : call_by way words buf n ≡ ended_by way o
-      unfolding in_session_of
-      ended_so = rw (sized-call way, eq-eqb (length words) size sized) (length-left way ∙ ap (ended_by way) (sym opens))
+  abbrev shut_at : Way → Result Opened Shut → Left
+  shut_at way (Ok o) = left_by words o.place buf (effect_at way words o.place buf n)
+  shut_at way (Err s) = refused_with (shut_number s) words buf
 
-      pub refused-gives : (r : Refusal) → o ≡ Err r → Gives (call_by way words buf n) (record { number = number_of r; length = 0 }) buf words
-      refused-gives r e = rw (ended_so, e) (record { answer = refl; buffer = refl; words = refl })
+  shut-alike : (way : Way) (o : Result Opened Refusal) → ended_by way o ≡ shut_at way (shut_by way words buf n o)
+  shut-alike way (Ok o) = refl
+  shut-alike way (Err r) = refl
 
-      pub stepped-gives : (q : Opened) → o ≡ Ok q → (r : Given) (after memory : List ℕ)
-          → Gives (left_by words q.place buf (effect_at way words q.place buf n)) r after memory → Gives (call_by way words buf n) r after memory
-      stepped-gives q e r after memory g = rw (ended_so, e) g
+  front-left : (way : Way) → call_by way words buf n ≡ shut_at way (open_of way words buf n)
+  unfolding open_of in_session_of
+  front-left way = sized-call way ∙ go (eqb (length words) size)
+    where
+      go : (b : Bool) → pick b (settled_by way (length_by way)) (refused_with wrong_memory words buf)
+          ≡ shut_at way (pick b (shut_by way words buf n (in_session_of way words buf n)) (Err (Border border.Memory)))
+      go true = length-left way ∙ shut-alike way (in_session_of way words buf n)
+      go false = refl
+
+  module _ (way : Way) (header : Result Opened Shut) (opens : header ≡ open_of way words buf n) where
+    pub shut-gives : (s : Shut) → header ≡ Err s → Gives (call_by way words buf n) (record { number = shut_number s; length = 0 }) buf words
+    shut-gives s e = rw (front-left way, sym opens, e) (record { answer = refl; buffer = refl; words = refl })
+
+    pub opened-gives : (o : Opened) → header ≡ Ok o → (r : Given) (after memory : List ℕ)
+        → Gives (left_by words o.place buf (effect_at way words o.place buf n)) r after memory → Gives (call_by way words buf n) r after memory
+    opened-gives o e r after memory g = rw (front-left way, sym opens, e) g

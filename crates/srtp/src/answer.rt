@@ -1,25 +1,17 @@
-// What the packet calls give back before a stream is found.
+// What a packet call gives back where its front shut.
 ghost use Rattle.std.specs.Prelude.{◌≡◌, Err};
-ghost use Rattle.bits.specs.Refusals.{wrong_memory, number_of};
-ghost use Rattle.bits.specs.declared.refusal.Refusal.{Refusal};
+ghost use Rattle.front.specs.Opening.{shut_number};
+ghost use Rattle.front.specs.declared.open.Shut.{Shut};
 
-use bits::refusal::{Border, Refusal};
-use front::open::Opened;
+use front::open::{Opened, Shut};
 use session::answer::Answer;
 
-// Of memory that has another size than a session's: the border's code.
-pub(crate) fn wrong_memory() -> Answer
-    ensures { result ≡ record { number = wrong_memory; length = 0 } }
+pub(crate) fn unopened(header: Result<Opened, Shut>) -> Answer
+    ensures { (shut : Shut) → header ≡ Err shut → result ≡ record { number = shut_number shut; length = 0 } }
 {
-    Answer {
-        number: u32::from(Border::Memory),
-        length: 0,
-    }
-}
-
-// Where the front refused.
-pub(crate) fn unopened(header: Result<Opened, Refusal>) -> Answer
-    ensures { (refusal : Refusal) → header ≡ Err refusal → result ≡ record { number = number_of refusal; length = 0 } }
-{
-    Answer::from(header.map(|_| 0))
+    let number = match header {
+        Ok(_) => 0,
+        Err(shut) => u32::from(shut),
+    };
+    Answer { number, length: 0 }
 }

@@ -1,10 +1,11 @@
 // A packet protected in its buffer.
 ghost use Rattle.session.specs.Calls.{Gives, protect_call};
 
-use crate::answer::{unopened, wrong_memory};
+use crate::answer::unopened;
 use front::open::open;
 use policies::policy::Way;
 use session::answer::Answer;
+use session::layout::SIZE;
 use streams::stream::protect_stream;
 
 // The packet of n bytes at the start of the buffer becomes the protected one, whose length is given back; the bytes after it stay, and of the session
@@ -12,12 +13,11 @@ use streams::stream::protect_stream;
 pub fn protect(session: &mut [u64], buf: &mut [u8], n: usize) -> Answer
     ensures { Gives (protect_call session.old buf.old n) result buf.new session.new }
 {
-    let Some(session) = session.as_mut_array() else {
-        return wrong_memory();
-    };
     let header = open(session, buf, n, Way::Sending);
     let Ok(opened) = header else {
         return unopened(header);
     };
+    // The front found the memory's size.
+    let session = session.as_mut_array::<SIZE>().unwrap();
     Answer::from(Ok(protect_stream(session, opened, buf, n)))
 }

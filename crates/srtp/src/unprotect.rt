@@ -1,10 +1,11 @@
 // A packet unprotected in its buffer.
 ghost use Rattle.session.specs.Calls.{Gives, unprotect_call};
 
-use crate::answer::{unopened, wrong_memory};
+use crate::answer::unopened;
 use front::open::open;
 use policies::policy::Way;
 use session::answer::Answer;
+use session::layout::SIZE;
 use streams::stream::unprotect_stream;
 
 // The protected packet of n bytes at the start of the buffer becomes the packet that is given back, whose length is n less the suite's tag; the tag and the bytes after it
@@ -12,12 +13,11 @@ use streams::stream::unprotect_stream;
 pub fn unprotect(session: &mut [u64], buf: &mut [u8], n: usize) -> Answer
     ensures { Gives (unprotect_call session.old buf.old n) result buf.new session.new }
 {
-    let Some(session) = session.as_mut_array() else {
-        return wrong_memory();
-    };
     let header = open(session, buf, n, Way::Receiving);
     let Ok(opened) = header else {
         return unopened(header);
     };
+    // The front found the memory's size.
+    let session = session.as_mut_array::<SIZE>().unwrap();
     Answer::from(unprotect_stream(session, opened, buf, n))
 }

@@ -2,23 +2,9 @@
 use mathlib.Core.Path.{ap, ◌∙◌}
 use lib.ListN.{length}
 use Rattle.policies.specs.declared.policy.Way.TheVariants.{Receiving}
-use Rattle.srtp.proofs.Fronts.{memory-gives, refused-gives, stepped-gives}
+use Rattle.srtp.proofs.Fronts.{shut-gives, opened-gives}
 use Rattle.srtp.proofs.unprotect.unprotect.Goals as goal
 
 pub returns-in_default : goal.returns-in_default
-returns-in_default c = rw c.wrong_memory.ensures (memory-gives c.args.session.now c.args.buf.now c.args.n Receiving c.in_default.ensures.cases)
-
-pub returns-in_default-header : goal.returns-in_default-header
-returns-in_default-header c =
-    let e = c.in-Some.ensures.cases in
-    let r = c.in_default-header.is in
-    rw (← e.same, c.unopened.ensures _ r) (refused-gives c.in-Some.session.now c.args.buf.now c.args.n Receiving (ap length e.same ∙ e.long) _ c.open-header.ensures.value _ r)
-
-pub unprotect_stream-requires : goal.unprotect_stream-requires
-unprotect_stream-requires c = rw c.in-Ok.is at c.open-header.ensures.opens_as
-
-pub returns : goal.returns
-returns c =
-    let e = c.in-Some.ensures.cases in
-    rw (← e.same, c.from.ensures)
-    (stepped-gives c.in-Some.session.now c.args.buf.now c.args.n Receiving (ap length e.same ∙ e.long) _ c.open-header.ensures.value _ c.in-Ok.is _ _ _ c.unprotect_stream.ensures)
+returns-in_default c =
+    let a = c.args in rw (c.unopened.ensures _ c.in_default.is) (shut-gives a.session.now a.buf.now a.n Receiving _ c.open-header.ensures.value _ c.in_default.is)
