@@ -14,7 +14,12 @@ pub fn row<const R: usize>(tables: Tables<'_>, x: u8) -> u32
     ensures { unpack_of result ≡ row_of R (sbox_of x) }
 {
     let at = 8 * (x as usize) + (4 - R) % 4;
-    word::pack([tables.round[at], tables.round[at + 1], tables.round[at + 2], tables.round[at + 3]])
+    word::pack([
+        tables.round[at],
+        tables.round[at + 1],
+        tables.round[at + 2],
+        tables.round[at + 3],
+    ])
 }
 
 // The whole column: SubBytes, MixColumns and AddRoundKey, for the four bytes that ShiftRows brings together. The order of the sum
@@ -22,7 +27,13 @@ pub fn row<const R: usize>(tables: Tables<'_>, x: u8) -> u32
 pub fn round_column(tables: Tables<'_>, a: u8, b: u8, c: u8, d: u8, k: [u8; 4]) -> [u8; 4]
     ensures { result ≡ xor_list (mix_column (sbox_of a) (sbox_of b) (sbox_of c) (sbox_of d)) k }
 {
-    word::unpack(row::<0>(tables, a) ^ word::pack(k) ^ row::<3>(tables, d) ^ row::<1>(tables, b) ^ row::<2>(tables, c))
+    word::unpack(
+        row::<0>(tables, a)
+            ^ word::pack(k)
+            ^ row::<3>(tables, d)
+            ^ row::<1>(tables, b)
+            ^ row::<2>(tables, c),
+    )
 }
 
 // AddRoundKey, a column at a time (5.1.4).

@@ -12,8 +12,14 @@ pub fn first_columns(tables: Tables<'_>, s: [[u8; 4]; 4], k: [[u8; 4]; 4]) -> [u
     ensures { FirstColumns s k result }
 {
     let [a, b, c, _] = s;
-    let p = row::<0>(tables, a[0]) ^ row::<1>(tables, b[1]) ^ row::<2>(tables, c[2]) ^ word::pack(k[0]);
-    let q = row::<0>(tables, b[0]) ^ row::<1>(tables, c[1]) ^ row::<3>(tables, a[3]) ^ word::pack(k[1]);
+    let p = row::<0>(tables, a[0])
+        ^ row::<1>(tables, b[1])
+        ^ row::<2>(tables, c[2])
+        ^ word::pack(k[0]);
+    let q = row::<0>(tables, b[0])
+        ^ row::<1>(tables, c[1])
+        ^ row::<3>(tables, a[3])
+        ^ word::pack(k[1]);
     [p, q]
 }
 

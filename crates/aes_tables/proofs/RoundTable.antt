@@ -38,7 +38,7 @@ module _ (t : List ℕ) (h : RoundTable t) (x : ℕ) (l : x < 256) where
   read r b =
       let d = (4 - r) % 4 in
       let at : (j : ℕ) → j < 4 → get_or t (8 * x + d + j) 0 ≡ get_or (row0_of (sbox_of x)) ((j + (4 - r)) % 4) 0 = λ j k.
-          let e : (d + j) % 4 ≡ (j + (4 - r)) % 4 = omega arith in
-          byte d j (omega arith) ∙ ap (λ (m : ℕ). get_or (row0_of (sbox_of x)) m 0) e in
+      let e : (d + j) % 4 ≡ (j + (4 - r)) % 4 = omega arith in
+      byte d j (omega arith) ∙ ap (λ (m : ℕ). get_or (row0_of (sbox_of x)) m 0) e in
       let z : 8 * x + d ≡ 8 * x + d + 0 = omega arith in
       cons4 (ap (λ (m : ℕ). get_or t m 0) z ∙ at 0 (omega arith)) (at 1 (omega arith)) (at 2 (omega arith)) (at 3 (omega arith))

@@ -2,7 +2,6 @@
 ghost use Rattle.std.specs.Prelude.{◌≡◌, ◌+◌, ◌≤◌, length, get_or};
 ghost use Rattle.bits.specs.Xor.{xor_pad};
 
-use bits::arrays::array;
 use bits::big_endian::{read32, write32};
 
 // The bytes of a block, from byte `from` on, onto a part, one by one.
@@ -20,13 +19,15 @@ fn xor_word(part: &mut [u8], block: [u8; 16], from: usize)
     requires { (length part.old ≡ 4) × (from + 4 ≤ 16) }
     ensures { part.new ≡ xor_pad (λ k. get_or block (from + k) 0) part.old }
 {
-    let word = read32(array(&block[from..from + 4]));
-    let sum = write32(read32(array(part)) ^ word);
-    // `copy_from_slice` would ask of each word whether it overlaps with the part: 6 % of the instructions of 200 bytes.
-    part[0] = sum[0];
-    part[1] = sum[1];
-    part[2] = sum[2];
-    part[3] = sum[3];
+    // `array` would ask whether a word overlaps with what it is copied to: 6 % of the instructions of 200 bytes.
+    let word = [
+        block[from],
+        block[from + 1],
+        block[from + 2],
+        block[from + 3],
+    ];
+    let sum = read32([part[0], part[1], part[2], part[3]]) ^ read32(word);
+    part.copy_from_slice(&write32(sum));
 }
 
 // A whole block onto a part of sixteen bytes, a column at a time: one by one, the compiler would take the bytes out of their columns and put them

@@ -7,6 +7,6 @@ use Rattle.element_cipher.proofs.elements.crypt_elements.Goals as goal
 pub returns : goal.returns
 returns c =
     let a = c.args in
-    let blocks = c.packet_start-blocks.result in
-    masked-is-stream _ a.tag (byte_from blocks.cipher.key blocks.block) (keystream_of a.key a.salt a.ssrc a.index) c.packet_start-blocks.ensures.by_index
+    let blocks = c.packet_start-blocks in
+    masked-is-stream _ a.tag (byte_from blocks.result.cipher.key blocks.result.block) (keystream_of a.key a.salt a.ssrc a.index) blocks.ensures.by_index
     a.block.now _ c.requires.block_value.1 c.crypt_by.ensures
