@@ -2,7 +2,7 @@
 ghost use Rattle.std.specs.Prelude.{◌≡◌, length};
 
 use aes_cm::derivation::derive;
-use aes_tables::tables;
+use aes_tables::tables::{self, Tables};
 use element_cipher::elements::crypt_elements;
 use keystream::stretch::stretch;
 use lines::arrays::padded;
@@ -44,9 +44,14 @@ pub fn masked(rt: &impl Print, key: &[u8], salt: &[u8], block: &mut [u8]) -> io:
     }
     let keys = derive(padded(key), padded(salt));
     let listed = [0b11010, 0, 0, 0];
+    let sbox = tables::sbox();
+    let round = tables::round_table();
+    let tables = Tables {
+        sbox: &sbox,
+        round: &round,
+    };
     crypt_elements(
-        &tables::sbox(),
-        &tables::round_table(),
+        tables,
         keys.header_cipher,
         keys.header_salt,
         SSRC,
