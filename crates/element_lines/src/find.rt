@@ -23,7 +23,8 @@ impl Display for Element {
     }
 }
 
-// Where the first element with an id begins in a packet, as C is told it; 0 for an empty one and for none.
+// Where the first element with an id begins in a packet, as C is told it; 0 for an empty one and for none. Both ways to find are called, since both are
+// compared by what is written.
 fn begin(packet: &[u8], id: u8) -> usize {
     let part = srtp::find::find(packet, u32::from(id));
     if part.length == 0 { 0 } else { part.begin }
@@ -37,6 +38,7 @@ pub fn find_element(words: &[&[u8]]) -> Option<Element> {
     let id = number(id)?;
     let packet = bytes::<4096>(packet)?;
     let mut number = 0;
+    // What is found fits, since it is a part of the packet.
     let part = ArrayVec::try_from(find(&packet, id, &mut number)).ok()?;
     let begin = begin(&packet, id);
     Some(Element {

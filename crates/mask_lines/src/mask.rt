@@ -32,7 +32,8 @@ impl Display for Mask {
     }
 }
 
-// The mask of an extension block, onto zeros: FF on the data of listed elements. A refusal's mask is not shown.
+// The mask of an extension block, onto zeros: FF on the data of listed elements. A refusal's mask is not shown. The walk goes by places, as the library's
+// own, since `next` is told where to go on.
 fn cover_listed(block: &[u8], tag: u16, set: [u64; 4], mask: &mut [u8]) -> Result<(), Refusal>
     requires { length mask.old ≡ length block.now }
     ensures { length mask.new ≡ length mask.old }
