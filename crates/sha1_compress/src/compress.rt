@@ -92,7 +92,7 @@ impl Working {
         d.four(stage)
     }
 
-    // Steps 64 to 79. All words are made, and each is taken where it stands.
+    // Steps 64 to 79. All words are made, and each is taken where it stands. (By way of `u`: no proof is made yet of a call whose array goes straight into `s`.)
     fn last(self) -> [u32; 5]
         ensures { (h m : List ℕ) → length m ≡ 16 → self ≡ working_at h m 64 → result ≡ steps_of (schedule_of m 64) h 80 }
     {

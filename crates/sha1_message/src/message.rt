@@ -28,7 +28,7 @@ fn block(b: &[u8], at: usize) -> [u32; 16]
     w
 }
 
-// The hash value after the first n blocks of b.
+// The hash value after the first n blocks of b. (By way of `u`, as in `compress`'s last steps.)
 pub fn blocks(h: [u32; 5], b: &[u8], n: usize) -> [u32; 5]
     requires { 64 * n ≤ length b.now }
     ensures { result ≡ blocks_of n h b.now }
@@ -68,7 +68,7 @@ fn close(end: &mut [u8; 128], left: &[u8], tail: &[u8], bits: u64) -> usize
 }
 
 // The hash value of a message of which k bytes, whole blocks, are in h already; the bytes of b and then of tail are the rest. Up to 63 bytes of b are left
-// over for its end, and 56 of tail make 119. No message here comes near 2^60 bytes: a packet has at most 2,048.
+// over for its end, and 56 of tail make 119. (Two parameters, as in `hmac::mac::mac`.) No message here comes near 2^60 bytes: a packet has at most 2,048.
 pub fn finish(h: [u32; 5], k: usize, b: &[u8], tail: &[u8]) -> [u32; 5]
     requires { (k % 64 ≡ 0) × ((length tail.now ≤ 56) × (k + length b.now + length tail.now < 2 ^ 60)) }
     ensures { result ≡ hash_from k h (b.now ++ tail.now) }
