@@ -14,7 +14,7 @@ use bits::arrays::array;
 use gcm::gctr::crypt;
 use gcm::tag::tag;
 use gcm_iv::iv::iv;
-use packet_cipher::cipher::encrypted_portion;
+use packet_cipher::cipher::portion;
 use packet_cipher::context::Context;
 use policies::policy::Way;
 use rtp_header::header::Layout;
@@ -39,7 +39,7 @@ pub fn seal_gcm(context: &Context, packet: &mut [u8], h: Layout) -> [u8; 16]
 {
     let key = context.keys.cipher;
     let hash = context.keys.hash;
-    let r = encrypted_portion(context.policy.is_cryptex(h), h);
+    let r = portion(context.policy.is_cryptex(h), h);
     let nonce = packet_iv(context);
     crypt(key, nonce, packet, r);
     tag(key, hash, nonce, packet, r)
@@ -53,7 +53,7 @@ pub fn open_gcm(context: &Context, buf: &mut [u8], n: usize, h: Layout) -> bool
 {
     let key = context.keys.cipher;
     let hash = context.keys.hash;
-    let r = encrypted_portion(context.policy.is_cryptex(h), h);
+    let r = portion(context.policy.is_cryptex(h), h);
     let nonce = packet_iv(context);
     let m = n - 16;
     let made = tag(key, hash, nonce, &buf[0..m], r);

@@ -13,23 +13,43 @@ use bits::portion::Portion;
 use element_cipher::elements::crypt_elements;
 use rtp_header::header::Layout;
 
+// The places of a portion as any layout has them, in order or not: of layouts that no packet has, too.
+#[derive(Clone, Copy)]
+pub struct Extent {
+    pub first: usize,
+    pub stop: usize,
+    pub rest: usize,
+}
+
 // What the packet's own keystream goes onto.
-pub fn encrypted_portion(cryptex: bool, h: Layout) -> Portion
-    requires { (h.contributors ≤ h.extension) × (h.extension ≤ h.block) }
-    ensures { result ≡ portion_of cryptex h }
+pub fn encrypted_portion(cryptex: bool, h: Layout) -> Extent
+    ensures { (result.first ≡ (portion_of cryptex h).first) × ((result.stop ≡ (portion_of cryptex h).stop) × (result.rest ≡ (portion_of cryptex h).rest)) }
 {
     if cryptex {
-        Portion {
+        Extent {
             first: h.contributors,
             stop: h.extension,
             rest: h.block,
         }
     } else {
-        Portion {
+        Extent {
             first: h.payload,
             stop: h.payload,
             rest: h.payload,
         }
+    }
+}
+
+// The same, in the order that a packet's parts have.
+pub fn portion(cryptex: bool, h: Layout) -> Portion
+    requires { (h.contributors ≤ h.extension) × (h.extension ≤ h.block) }
+    ensures { result ≡ portion_of cryptex h }
+{
+    let extent = encrypted_portion(cryptex, h);
+    Portion {
+        first: extent.first,
+        stop: extent.stop,
+        rest: extent.rest,
     }
 }
 
@@ -49,7 +69,7 @@ pub fn crypt(context: &Context, packet: &mut [u8], h: Layout)
     let keys = &context.keys;
     let ssrc = context.ssrc;
     let index = context.index;
-    let r = encrypted_portion(context.policy.is_cryptex(h), h);
+    let r = portion(context.policy.is_cryptex(h), h);
     xor_portion(tables, keys.cipher, keys.salt, ssrc, index, packet, r);
     if context.policy.uses_mask() {
         crypt_elements(

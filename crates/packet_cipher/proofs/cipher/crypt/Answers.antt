@@ -12,13 +12,13 @@ use Rattle.packet_cipher.specs.Cipher.{portion_of, portion_pad_of, stream_of, he
 use Rattle.packet_cipher.proofs.Passes.{sound-read, whole-block, portion-order, whole-stays, size-stays, payload-only, crypted-plain, crypted-masked, under-mask}
 use Rattle.packet_cipher.proofs.cipher.crypt.Goals as goal
 
-pub encrypted_portion-r-requires : goal.encrypted_portion-r-requires
-encrypted_portion-r-requires c = let s = sound-read _ _ c.requires.h_value.0 in omega (arith, s.contributors, s.count, s.block)
+pub portion-r-requires : goal.portion-r-requires
+portion-r-requires c = let s = sound-read _ _ c.requires.h_value.0 in omega (arith, s.contributors, s.count, s.block)
 
 pub xor_portion-requires : goal.xor_portion-requires
 xor_portion-requires c =
     let o = portion-order c.is_cryptex.result c.args.h _ (sound-read _ _ c.requires.h_value.0) c.requires.h_value.1.0 in
-    record { rest_le_length = rw c.encrypted_portion-r.ensures (o.1.1, omega arith) }
+    record { rest_le_length = rw c.portion-r.ensures (o.1.1, omega arith) }
 
 pub slice_bounds-crypt_elements-count : goal.slice_bounds-crypt_elements-count
 slice_bounds-crypt_elements-count c = (sound-read _ _ c.requires.h_value.0).payload
@@ -33,7 +33,7 @@ crypt_elements-requires c =
     let payload-passed : uses_mask c.args.context.now.policy ≡ true
     → passed ≡ xor_pad (portion_pad_of (portion_of false c.args.h) stream) c.args.packet.now = λ m.
     let a = c.args in
-    payload-only a.context.now.policy a.h stream a.packet.now m _ _ _ c.is_cryptex.ensures c.encrypted_portion-r.ensures c.xor_portion.ensures in
+    payload-only a.context.now.policy a.h stream a.packet.now m _ _ _ c.is_cryptex.ensures c.portion-r.ensures c.xor_portion.ensures in
     let masks : c.uses_mask.result ≡ true → uses_mask c.args.context.now.policy ≡ true = λ e. sym c.uses_mask.ensures ∙ e in
     let a = c.args in
     let h = a.h in
@@ -52,7 +52,7 @@ returns-then-uses_mask c =
     let payload-passed : uses_mask c.args.context.now.policy ≡ true
     → passed ≡ xor_pad (portion_pad_of (portion_of false c.args.h) stream) c.args.packet.now = λ m.
     let a = c.args in
-    payload-only a.context.now.policy a.h stream a.packet.now m _ _ _ c.is_cryptex.ensures c.encrypted_portion-r.ensures c.xor_portion.ensures in
+    payload-only a.context.now.policy a.h stream a.packet.now m _ _ _ c.is_cryptex.ensures c.portion-r.ensures c.xor_portion.ensures in
     let masks : c.uses_mask.result ≡ true → uses_mask c.args.context.now.policy ≡ true = λ e. sym c.uses_mask.ensures ∙ e in
     let a = c.args in
     let p = c.requires.h_value in
@@ -66,4 +66,4 @@ returns-else-uses_mask c =
     let header-stream : ℕ → ℕ = header_stream_of CmHmac c.args.context.now.keys c.args.context.now.ssrc c.args.context.now.index in
     let a = c.args in
     crypted-plain (listed_in a.context.now.ids) stream header-stream a.packet.now a.h c.requires.h_value.0 a.context.now.policy (sym c.uses_mask.ensures ∙ c.if-uses_mask.false)
-    _ _ _ c.is_cryptex.ensures c.encrypted_portion-r.ensures c.xor_portion.ensures
+    _ _ _ c.is_cryptex.ensures c.portion-r.ensures c.xor_portion.ensures
