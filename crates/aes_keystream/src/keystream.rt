@@ -9,7 +9,8 @@ ghost use Rattle.aes_keystream.specs.Steps.{span_of, Span, Holds, Used};
 use aes::blocks::{Blocks, block};
 use block_xor::part::{xor_bytes, xor_part};
 
-// The next byte of the keystream is number `at`; `block` is the block it stands in, unless that is still to be made.
+// The next byte of the keystream is number `at`; `block` is the block it stands in, unless that is still to be made. Whose block it is, the blocks say that go with
+// it, so it is a clause, `Holds`, and no fact of this type alone.
 #[derive(Clone, Copy)]
 pub struct Keystream {
     pub block: [u8; 16],

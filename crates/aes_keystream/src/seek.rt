@@ -30,6 +30,7 @@ pub fn skip(blocks: &Blocks<'_>, s: Keystream, to: usize) -> Keystream
 {
     let mut unread = [0u8; 16];
     let mut t = pass_held(s, to);
+    // No count goes up here: each stretch ends where its block does, or at `to`.
     while t.at < to {
         let n = span(0, to - t.at);
         t = xor_stretch(blocks, &mut unread[..n], t);
