@@ -86,11 +86,6 @@ module _ (key iv : List ℕ) (n : length iv ≡ 12) where
 
 -- ---- what the code XORs, from the block IV || 0^32 on
 
-pub started-is : (key block key' iv l m : List ℕ) (from first stop rest : ℕ) → key ≡ key' → block ≡ base_of iv
-    → m ≡ xor_pad (portion_pad first stop rest (λ k. byte_from key block (from + k))) l → m ≡ xor_pad (portion_pad first stop rest (λ k. byte_from key' (base_of iv) (from + k))) l
-started-is key block key' iv l m from first stop rest ek eb e =
-    e ∙ ap₂ (λ (x y : List ℕ). xor_pad (portion_pad first stop rest (λ k. byte_from x y (from + k))) l) ek eb
-
 module _ (key iv : List ℕ) (n : length iv ≡ 12) where
   -- onto the portion, from byte 32 on
   pub sealed-is : (l m : List ℕ) (first stop rest : ℕ) → first ≤ stop → stop ≤ rest → 32 + length l ≤ keystream_end
