@@ -10,12 +10,7 @@ use text::words::count;
 use text_output::output::{put, put_decimal, put_hex};
 
 // The mask of an extension block, onto zeros: FF on the data of listed elements. A refusal's mask is not shown.
-fn cover_listed(
-    block: &[u8],
-    tag: u16,
-    set: [u64; 4],
-    mask: &mut [u8],
-) -> Result<(), Refusal>
+fn cover_listed(block: &[u8], tag: u16, set: [u64; 4], mask: &mut [u8]) -> Result<(), Refusal>
     requires { length mask.old ≡ length block.now }
     ensures { length mask.new ≡ length mask.old }
 {
