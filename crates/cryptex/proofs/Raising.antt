@@ -3,10 +3,9 @@ use mathlib.Core.Path.{◌≡◌, sym, ap, ◌∙◌}
 use mathlib.Core.List.{List, [], ◌∷◌, ◌++◌, append_assoc}
 use Prim.Native.Nat.{ℕ, zero, suc, ◌+◌, ◌-◌, ◌≤◌, ◌<◌}
 use native.Mathlib.Nat.{sub-zero, zero-sub, suc-sub-suc}
-use native.Mathlib.Numerals.{towards_suc}
 use native.Mathlib.Omega.{arith}
-use lib.ListN.{length, take, drop, set, get_or, length-set, length-append, length-drop, take-append-drop, get_or-append}
-use lib.Seq.{drop-drop, drop-cons, take-suc, drop-set-lt, take-set-le, take-set-lt, drop-set-add, get_or-set_same, get_or-drop, get_or-take, sets-eq, set-append_left, take-append-le, take-take, take-nil, drop_at, length-take-le}
+use lib.ListN.{length, take, drop, set, get_or, get_or-append}
+use lib.Seq.{drop-drop, take-set-lt, get_or-take, set-append_left, take-append-le, take-take, take-nil, drop_at, length-take-le}
 use Rattle.std.specs.List.{copy_within}
 use Rattle.policies.specs.Cryptex.{with_block}
 use Rattle.cryptex.specs.Steps.{raised_of}
@@ -17,16 +16,6 @@ copied-raised at n l h =
     let e : at + 4 + (n - at) ≡ n + 4 = omega arith in
     append_assoc (take (at + 4) l) (take (n - at) (drop at l)) (drop (at + 4 + (n - at)) l)
     ∙ ap (λ (k : ℕ). take (at + 4) l ++ (take (n - at) (drop at l) ++ drop k l)) e
-
-pub raised-length : (at n : ℕ) (l : List ℕ) → at ≤ n → n + 4 ≤ length l → length (raised_of at n l) ≡ length l
-unfolding raised_of
-raised-length at n l h k =
-    let a : length (take (at + 4) l) ≡ at + 4 = length-take-le (at + 4) l (omega arith) in
-    let b : length (take (n - at) (drop at l)) ≡ n - at = length-take-le (n - at) (drop at l) (simp length-drop (omega arith)) in
-    let c : length (drop (n + 4) l) ≡ length l - (n + 4) = length-drop (n + 4) l in
-    length-append (take (at + 4) l) (take (n - at) (drop at l) ++ drop (n + 4) l)
-    ∙ ap (λ (m : ℕ). length (take (at + 4) l) + m) (length-append (take (n - at) (drop at l)) (drop (n + 4) l))
-    ∙ omega arith
 
 -- ---- the four bytes
 

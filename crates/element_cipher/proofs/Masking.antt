@@ -1,5 +1,5 @@
 -- Masking a block in place, an element at a time.
-use Rattle.std.specs.Prelude.{IsOk, Option, Some, None, Result, Ok, Err}
+use Rattle.std.specs.Prelude.{IsOk, Option, None, Result, Ok, Err}
 use mathlib.Core.Path.{◌≡◌, refl, sym, ap, ap₂, ◌∙◌, fun_ext}
 use mathlib.Core.Bool.{Bool, true, false, not, true≢false}
 use mathlib.Core.List.{List, ◌++◌, append_assoc}

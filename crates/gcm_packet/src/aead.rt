@@ -24,11 +24,7 @@ use tags::tag::same;
 fn packet_iv(context: &Context) -> [u8; 12]
     ensures { result ≡ packet_iv context.now.keys context.now.ssrc context.now.index }
 {
-    iv(
-        array(&context.keys.salt[..12]),
-        context.ssrc,
-        context.index,
-    )
+    iv(array(&context.keys.salt[..12]), context.ssrc, context.index)
 }
 
 // The packet, whose layout is h, encrypted; its tag.

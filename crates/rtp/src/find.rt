@@ -23,7 +23,8 @@ pub fn locate(block: &[u8], tag: u16, id: u8) -> Result<Element, Refusal>
     first.ok_or(Refusal::Absent)
 }
 
-// The data of the first element with an id, in a plain packet. A refusal hands back an empty part.
+// The data of the first element with an id, in a plain packet. A refusal hands back an empty part, as document 01 wants it, so the answer goes beside the part and
+// not in a Result.
 pub fn find<'a>(packet: &'a [u8], id: u8, answer: &mut u8) -> &'a [u8]
     ensures { HandedBack packet.entry (find_of packet.now id) answer.new result }
 {

@@ -38,7 +38,7 @@ fn fitted(element: Element, size: usize) -> Result<Option<Element>, Refusal>
     }
 }
 
-// The element with the one-byte header x at place i.
+// The element with the one-byte header x at place i. RFC 8285 has two formats of header (4.2 and 4.3), so there are two readers: they share `fitted`.
 fn one_byte_element(x: u8, i: usize, size: usize) -> Result<Option<Element>, Refusal>
     requires { i < size }
     ensures { result ≡ next_by size true (begun_of false Between i x) }
@@ -84,6 +84,7 @@ fn element_at(block: &[u8], tag: u16, i: usize) -> Result<Option<Element>, Refus
 }
 
 // The next element from a place on, which is the block's start or the end of an element; ELEMENT where one runs past the block.
+// No iterator that borrows the block: whoever encrypts elements writes into it between two steps.
 pub fn next(block: &[u8], tag: u16, from: usize) -> Result<Option<Element>, Refusal>
     ensures { result ≡ next_of tag block.now from }
 {

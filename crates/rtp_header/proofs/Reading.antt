@@ -13,7 +13,7 @@ use Rattle.bits.specs.BigEndian.{from_bytes}
 use Rattle.bits.specs.Pick.{pick}
 use Rattle.bits.specs.declared.refusal.Refusal.{Refusal}
 use Rattle.bits.specs.declared.refusal.Refusal.TheVariants as refusal
-use Rattle.rtp_header.specs.Header.{version_of, has_extension, count_of, past_contributors, field16, layout_by, layout_of, bounded_of, header_of}
+use Rattle.rtp_header.specs.Header.{version_of, has_extension, past_contributors, field16, layout_by, layout_of, bounded_of, header_of}
 
 module _ (p : List ℕ) (t : ℕ) where
   pub is-short : length p < 12 + t → Err refusal.Short ≡ header_of p t

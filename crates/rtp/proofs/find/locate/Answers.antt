@@ -26,14 +26,14 @@ loop-element-smaller c = let s = next-at _ _ _ _ (sym c.next.ensures ∙ c.in_ok
 pub loop-element-preserved : goal.loop-element-preserved
 loop-element-preserved c =
     let k : Kept c.loop-element.first c.in-Some.element c.args.id c.if-is_none.first =
-        elim c.if-is_none.branch [
-          | then-is_none+then-element-id w ↦ here w.if-is_none.ensures w.if-element-id.true w.first-is
-          | else-is_none w ↦
-              elim w.else-is_none.branch [
-                | else-is_none-via-then-is_none+else-element-id v ↦ other v.if-element-id.false w.first-is
-                | else-is_none-via-else-is_none v ↦ there v.if-is_none.ensures w.first-is
-              ]
-        ] in
+    elim c.if-is_none.branch [
+      | then-is_none+then-element-id w ↦ here w.if-is_none.ensures w.if-element-id.true w.first-is
+      | else-is_none w ↦
+          elim w.else-is_none.branch [
+            | else-is_none-via-then-is_none+else-element-id v ↦ other v.if-element-id.false w.first-is
+            | else-is_none-via-else-is_none v ↦ there v.if-is_none.ensures w.first-is
+          ]
+    ] in
     sought-next _ _ _ _ _ _ _ k (next-at _ _ _ _ (sym c.next.ensures ∙ c.in_ok-element.was ∙ ap Ok c.in-Some.is)) c.loop-element.invariant
 
 pub returns-clause-value : goal.returns-clause-value

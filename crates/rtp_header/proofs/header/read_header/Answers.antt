@@ -9,8 +9,8 @@ use Rattle.rtp_header.proofs.header.read_header.Goals.{then-n-t-via-then-n-t, th
 pub returns-then-n-t : goal.returns-then-n-t
 returns-then-n-t c = record {
   value =
-    is-short _ _
-    (elim c.then-n-t.branch [ then-n-t-via-then-n-t w ↦ omega (arith, w.if-n-t.true) | then-n-t-via-else-n-t+then-n-t-lt12 w ↦ omega (arith, w.if-n-t.false, w.if-n-t-lt12.true) ]);
+      is-short _ _
+      (elim c.then-n-t.branch [ then-n-t-via-then-n-t w ↦ omega (arith, w.if-n-t.true) | then-n-t-via-else-n-t+then-n-t-lt12 w ↦ omega (arith, w.if-n-t.false, w.if-n-t-lt12.true) ]);
   ordered = tt;
 }
 
@@ -39,7 +39,7 @@ returns-then-end-at-clause-value c =
 pub returns : goal.returns
 returns c = record {
   value =
-    plain c.args.packet.now _ _ refl (ne_eqb _ _ c.if-first-eq1.false) c.if-end-at.false
-    ∙ right-version _ _ (omega (arith, c.if-n-t.false, c.if-n-t-lt12.false)) (sym c.is_version_2.ensures ∙ c.if-not-is_version_2.false);
+      plain c.args.packet.now _ _ refl (ne_eqb _ _ c.if-first-eq1.false) c.if-end-at.false
+      ∙ right-version _ _ (omega (arith, c.if-n-t.false, c.if-n-t-lt12.false)) (sym c.is_version_2.ensures ∙ c.if-not-is_version_2.false);
   ordered = (omega arith, (omega arith, (omega arith, c.if-end-at.false)));
 }
