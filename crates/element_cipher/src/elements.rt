@@ -2,62 +2,52 @@
 ghost use Rattle.std.specs.Prelude.{◌≡◌, true, ◌≤◌, length};
 ghost use Rattle.bits.specs.Xor.{xor_pad};
 ghost use Rattle.stretches.specs.Stretch.{keystream_end, stretch_pad};
-ghost use Rattle.aes_tables.specs.Tables.{SboxTable, RoundTable};
-ghost use Rattle.aes.specs.Blocks.{byte_from, Lent, Started};
+ghost use Rattle.aes.specs.Blocks.{byte_from};
 ghost use Rattle.aes_counter.specs.Keystream.{keystream_of};
 ghost use Rattle.aes_keystream.specs.Steps.{Holds};
 ghost use Rattle.rtp_elements.specs.Elements.{whole_of};
 ghost use Rattle.rtp_elements.specs.Mask.{listed_in, masked_of};
 
 use crate::listed::is_listed;
-use aes::blocks::{Start, round_keys};
+use aes::blocks::{Blocks, Cipher, round_keys};
 use aes_counter::start::packet_start;
 use aes_keystream::keystream::{Keystream, xor_held, xor_stretch};
 use aes_keystream::seek::skip;
+use aes_tables::tables::Tables;
 use rtp_elements::element::next;
 
 // The data of one element: byte k of the block with byte k of the keystream, k from `begin` up to `end`, a stretch that starts there. Most elements lie in the
 // cipher's block that is held.
 fn crypt_element(
-    sbox: &[u8; 256],
-    table: &[u8; 2048],
-    keys: &[[[u8; 4]; 4]; 11],
-    start: Start,
+    blocks: &Blocks<'_>,
     block: &mut [u8],
     begin: usize,
     end: usize,
     s: Keystream,
 ) -> Keystream
-    requires lent { Lent sbox.now table.now keys.now start.key }
-    requires started { Started start }
     requires at_le_begin { (s.at ≤ begin) × ((begin ≤ end) × ((end ≤ length block.old) × (length block.old ≤ keystream_end))) }
-    requires holds { Holds start.key start.block s }
-    ensures at_value { (result.at ≡ end) × Holds start.key start.block result }
-    ensures block_after { block.new ≡ xor_pad (stretch_pad begin end begin (byte_from start.key start.block)) block.old }
+    requires holds { Holds blocks.now.cipher.key blocks.now.block s }
+    ensures at_value { (result.at ≡ end) × Holds blocks.now.cipher.key blocks.now.block result }
+    ensures block_after { block.new ≡ xor_pad (stretch_pad begin end begin (byte_from blocks.now.cipher.key blocks.now.block)) block.old }
 {
-    let t = skip(sbox, table, keys, start, s, begin);
+    let t = skip(blocks, s, begin);
     let u = xor_held(&mut block[begin..end], t);
     let a = u.at;
     if a < end {
-        return xor_stretch(sbox, table, keys, start, &mut block[a..end], u);
+        return xor_stretch(blocks, &mut block[a..end], u);
     }
     u
 }
 
 // The data of listed elements, byte k of the block with byte k of the keystream; the rest of the block stays.
 fn crypt_by(
-    sbox: &[u8; 256],
-    table: &[u8; 2048],
-    keys: &[[[u8; 4]; 4]; 11],
-    start: Start,
+    blocks: &Blocks<'_>,
     block: &mut [u8],
     tag: u16,
     listed: &[u64; 4],
 )
-    requires lent { Lent sbox.now table.now keys.now start.key }
-    requires started { Started start }
     requires block_value { (whole_of tag block.old ≡ true) × (length block.old ≤ keystream_end) }
-    ensures { block.new ≡ masked_of (listed_in listed.now) tag (byte_from start.key start.block) block.old }
+    ensures { block.new ≡ masked_of (listed_in listed.now) tag (byte_from blocks.now.cipher.key blocks.now.block) block.old }
 {
     let mut s = Keystream {
         block: [0u8; 16],
@@ -68,7 +58,7 @@ fn crypt_by(
         let begin = element.begin;
         let end = begin + element.length;
         if is_listed(listed, element.id) {
-            let t = crypt_element(sbox, table, keys, start, block, begin, end, s);
+            let t = crypt_element(blocks, block, begin, end, s);
             s = t;
         }
         i = end;
@@ -77,8 +67,7 @@ fn crypt_by(
 
 // The same by key, salt, SSRC and index, with tables that the caller lends.
 pub fn crypt_elements(
-    sbox: &[u8; 256],
-    table: &[u8; 2048],
+    tables: Tables<'_>,
     key: [u8; 16],
     salt: [u8; 14],
     ssrc: u32,
@@ -87,11 +76,15 @@ pub fn crypt_elements(
     tag: u16,
     listed: &[u64; 4],
 )
-    requires sbox_table { SboxTable sbox.now × RoundTable table.now }
     requires block_value { (whole_of tag block.old ≡ true) × (length block.old ≤ keystream_end) }
     ensures { block.new ≡ masked_of (listed_in listed.now) tag (keystream_of key salt ssrc index) block.old }
 {
-    let keys = round_keys(sbox, key);
-    let start = packet_start(sbox, table, &keys, key, salt, ssrc, index);
-    crypt_by(sbox, table, &keys, start, block, tag, listed);
+    let keys = round_keys(tables, key);
+    let cipher = Cipher {
+        tables,
+        keys: &keys,
+        key,
+    };
+    let blocks = packet_start(cipher, salt, ssrc, index);
+    crypt_by(&blocks, block, tag, listed);
 }

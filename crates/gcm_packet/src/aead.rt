@@ -41,8 +41,8 @@ pub fn seal_gcm(context: &Context, packet: &mut [u8], h: Layout) -> [u8; 16]
     let hash = context.keys.hash;
     let r = encrypted_portion(context.policy.is_cryptex(h), h);
     let nonce = packet_iv(context);
-    crypt(key, nonce, packet, r.first, r.stop, r.rest);
-    tag(key, hash, nonce, packet, r.first, r.stop, r.rest)
+    crypt(key, nonce, packet, r);
+    tag(key, hash, nonce, packet, r)
 }
 
 // Whether the tag of the packet of n bytes is right; then, and only then, the bytes before it are decrypted.
@@ -56,11 +56,11 @@ pub fn open_gcm(context: &Context, buf: &mut [u8], n: usize, h: Layout) -> bool
     let r = encrypted_portion(context.policy.is_cryptex(h), h);
     let nonce = packet_iv(context);
     let m = n - 16;
-    let made = tag(key, hash, nonce, &buf[0..m], r.first, r.stop, r.rest);
+    let made = tag(key, hash, nonce, &buf[0..m], r);
     let differs = !same(&made, &buf[m..n]);
     if differs {
         return false;
     }
-    crypt(key, nonce, &mut buf[0..m], r.first, r.stop, r.rest);
+    crypt(key, nonce, &mut buf[0..m], r);
     true
 }

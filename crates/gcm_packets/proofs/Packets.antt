@@ -14,7 +14,7 @@ use Rattle.gcm_hash.specs.Portion.{outside_of, inside_of}
 use Rattle.gcm.specs.Gcm.{crypt_of}
 use Rattle.gcm.specs.Steps.{sealed_of}
 use Rattle.gcm.proofs.InPlace.{inside_is, outside-is}
-use Rattle.packet_cipher.specs.declared.cipher.Portion.{Portion}
+use Rattle.bits.specs.Portion.{Bounds}
 use Rattle.packet_cipher.specs.declared.keys.Keys.{Keys}
 use Rattle.packet_cipher.specs.Cipher.{packet_iv, stream_of, cipher_of}
 use Rattle.packet_cipher.specs.Tag.{encrypted_in, associated_data, cipher_text}
@@ -24,7 +24,7 @@ use Rattle.packet_cipher.proofs.GcmPass.{gcm-pass, sealed-portion}
 use Rattle.gcm_packets.specs.Claims.{PacketsAreGcm}
 
 module _ (keys : Keys) (policy : Policy) (listed : ℕ → Bool) (ssrc index : ℕ) (p : List ℕ) (fits : (layout_of p).payload ≤ length p) where
-  abbrev r : Portion
+  abbrev r : Bounds
   r = encrypted_in policy p
 
   sealed : List ℕ
@@ -44,13 +44,13 @@ module _ (keys : Keys) (policy : Policy) (listed : ℕ → Bool) (ssrc index : �
   pub text : cipher_text policy (cipher_of Gcm keys policy listed ssrc index p) ≡ crypt_of keys.cipher (packet_iv keys ssrc index) (cipher_text policy p)
   unfolding sealed
   text =
-      ap (cipher_text policy) (sym is-cipher) ∙ ap (λ (x : Portion). inside_of x.first x.stop x.rest sealed) (sym same-portion)
+      ap (cipher_text policy) (sym is-cipher) ∙ ap (λ (x : Bounds). inside_of x.first x.stop x.rest sealed) (sym same-portion)
       ∙ inside_is p r.first r.stop r.rest (stream_of Gcm keys ssrc index) order.0 order.1.0 order.1.1
 
   pub kept : associated_data policy (cipher_of Gcm keys policy listed ssrc index p) ≡ associated_data policy p
   unfolding sealed
   kept =
-      ap (associated_data policy) (sym is-cipher) ∙ ap (λ (x : Portion). outside_of x.first x.stop x.rest sealed) (sym same-portion)
+      ap (associated_data policy) (sym is-cipher) ∙ ap (λ (x : Bounds). outside_of x.first x.stop x.rest sealed) (sym same-portion)
       ∙ outside-is p r.first r.stop r.rest (stream_of Gcm keys ssrc index) order.0 order.1.0 order.1.1
 
 pub plain : (policy : Policy) (p : List ℕ) → is_cryptex policy (layout_of p) ≡ false → associated_data policy p ≡ take (layout_of p).payload p

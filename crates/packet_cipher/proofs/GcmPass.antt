@@ -19,7 +19,7 @@ use Rattle.rtp_elements.specs.Mask.{mask_of}
 use Rattle.policies.specs.declared.policy.Policy.{Policy}
 use Rattle.policies.specs.declared.policy.Policy.TheVariants.{Plain, Cryptex, CryptexRequired, Mask}
 use Rattle.policies.specs.Cryptex.{is_cryptex}
-use Rattle.packet_cipher.specs.declared.cipher.Portion.{Portion}
+use Rattle.bits.specs.Portion.{Bounds}
 use Rattle.packet_cipher.specs.declared.keys.Keys.{Keys}
 use Rattle.packet_cipher.specs.Cipher.{portion_of, portion_pad_of, block_pad_of, pad_of, crypted_of, stream_of, header_stream_of, cipher_of}
 use Rattle.packet_cipher.specs.Tag.{encrypted_in}
@@ -58,13 +58,13 @@ module _ (listed : ℕ → Bool) (stream : ℕ → ℕ) (p : List ℕ) where
 
 -- as the code has it: h is the layout that was read, c whether it is Cryptex, r the portion
 module _ (keys : Keys) (policy : Policy) (ssrc index : ℕ) (p : List ℕ) (h : Layout) (read : h ≡ layout_of p) (c : Bool) (is : c ≡ is_cryptex policy h)
-    (r : Portion) (er : r ≡ portion_of c h) where
+    (r : Bounds) (er : r ≡ portion_of c h) where
   pub portion-is : r ≡ portion_of (is_cryptex policy (layout_of p)) (layout_of p)
   portion-is = er ∙ rw (is, read)
 
   pub gcm-pass : (listed : ℕ → Bool) (q : List ℕ) → q ≡ xor_pad (portion_pad_of r (stream_of Gcm keys ssrc index)) p → q ≡ cipher_of Gcm keys policy listed ssrc index p
   gcm-pass listed q e =
-      e ∙ ap (λ (x : Portion). xor_pad (portion_pad_of x (stream_of Gcm keys ssrc index)) p) portion-is ∙ one-pass listed (stream_of Gcm keys ssrc index) p policy
+      e ∙ ap (λ (x : Bounds). xor_pad (portion_pad_of x (stream_of Gcm keys ssrc index)) p) portion-is ∙ one-pass listed (stream_of Gcm keys ssrc index) p policy
 
   -- which leaves its layout, and so the portion
   pub sealed-portion : (q : List ℕ) → q ≡ xor_pad (portion_pad_of r (stream_of Gcm keys ssrc index)) p → r ≡ encrypted_in policy q

@@ -19,7 +19,7 @@ use Rattle.rtp_elements.specs.Elements.{whole_of}
 use Rattle.rtp_header.specs.Header.{layout_of, block_of}
 use Rattle.rtp_elements.specs.Mask.{mask_of, masked_pad, masked_of}
 use Rattle.rtp_elements.proofs.Walks.{masked-is}
-use Rattle.packet_cipher.specs.declared.cipher.Portion.{Portion}
+use Rattle.bits.specs.Portion.{Bounds}
 use Rattle.policies.specs.declared.policy.Policy.{Policy}
 use Rattle.policies.specs.declared.policy.Policy.TheVariants.{Plain, Cryptex, CryptexRequired, Mask}
 use Rattle.packet_cipher.specs.Cipher.{portion_of, portion_pad_of, pad_of, crypted_of}
@@ -49,10 +49,10 @@ portion-order true h n s f = omega (arith, s.contributors, s.count, s.block, s.p
 portion-order false h n s f = omega arith
 
 -- so that under the mask the packet's own keystream is the payload's
-pub payload-only : (policy : Policy) (h : Layout) (stream : ℕ → ℕ) (p : List ℕ) → uses_mask policy ≡ true → (c : Bool) (r : Portion) (q : List ℕ) → c ≡ is_cryptex policy h
+pub payload-only : (policy : Policy) (h : Layout) (stream : ℕ → ℕ) (p : List ℕ) → uses_mask policy ≡ true → (c : Bool) (r : Bounds) (q : List ℕ) → c ≡ is_cryptex policy h
     → r ≡ portion_of c h → q ≡ xor_pad (portion_pad_of r stream) p → q ≡ xor_pad (portion_pad_of (portion_of false h) stream) p
 payload-only policy h stream p m c r q ec er eq =
-    eq ∙ ap (λ (a : Portion). xor_pad (portion_pad_of a stream) p) (er ∙ ap (λ (b : Bool). portion_of b h) (ec ∙ not-cryptex policy h m))
+    eq ∙ ap (λ (a : Bounds). xor_pad (portion_pad_of a stream) p) (er ∙ ap (λ (b : Bool). portion_of b h) (ec ∙ not-cryptex policy h m))
 
 -- q is the packet once its payload is encrypted: that keystream leaves the block as it is
 module _ (h : Layout) (stream : ℕ → ℕ) (p q : List ℕ) (e : q ≡ xor_pad (portion_pad_of (portion_of false h) stream) p) where
@@ -137,7 +137,7 @@ module _ (listed : ℕ → Bool) (stream header-stream : ℕ → ℕ) (p : List 
 -- ---- as the code has it: h is the layout that was read
 module _ (listed : ℕ → Bool) (stream header-stream : ℕ → ℕ) (p : List ℕ) (h : Layout) (read : h ≡ layout_of p) where
   -- r is the portion, q what came out
-  pub crypted-plain : (policy : Policy) → uses_mask policy ≡ false → (c : Bool) (r : Portion) (q : List ℕ) → c ≡ is_cryptex policy h → r ≡ portion_of c h
+  pub crypted-plain : (policy : Policy) → uses_mask policy ≡ false → (c : Bool) (r : Bounds) (q : List ℕ) → c ≡ is_cryptex policy h → r ≡ portion_of c h
       → q ≡ xor_pad (portion_pad_of r stream) p → q ≡ crypted_of policy listed stream header-stream p
   crypted-plain policy m c r q ec er eq = eq ∙ rw (er, ec, read) (one-pass listed stream header-stream p policy m)
 

@@ -20,7 +20,7 @@ use Rattle.rtp_header.specs.Header.{layout_of}
 use Rattle.policies.specs.declared.policy.Policy.{Policy}
 use Rattle.policies.specs.declared.policy.Policy.TheVariants.{Plain, Cryptex, CryptexRequired}
 use Rattle.policies.specs.Cryptex.{is_cryptex}
-use Rattle.packet_cipher.specs.declared.cipher.Portion.{Portion}
+use Rattle.bits.specs.Portion.{Bounds}
 use Rattle.packet_cipher.specs.declared.keys.Keys.{Keys}
 use Rattle.packet_cipher.specs.Cipher.{packet_iv}
 use Rattle.packet_cipher.specs.Tag.{encrypted_in, associated_data, cipher_text, tag_of, standard_tag}
@@ -39,13 +39,13 @@ unfolding tag_of
 tag-code keys policy ssrc index p code e = ap (take 10) e
 
 -- GCM's tag, for the portion r of q, which has the layout of p
-pub tag-gcm : (keys : Keys) (policy : Policy) (ssrc index : ℕ) (q : List ℕ) (r : Portion) → r ≡ encrypted_in policy q → (iv made : List ℕ) → iv ≡ packet_iv keys ssrc index
+pub tag-gcm : (keys : Keys) (policy : Policy) (ssrc index : ℕ) (q : List ℕ) (r : Bounds) → r ≡ encrypted_in policy q → (iv made : List ℕ) → iv ≡ packet_iv keys ssrc index
     → made ≡ tag_by keys.cipher keys.hash iv (outside_of r.first r.stop r.rest q) (inside_of r.first r.stop r.rest q)
     → made ≡ tag_of Gcm keys policy ssrc index q
 unfolding tag_of
 tag-gcm keys policy ssrc index q r er iv made ei e =
     e
-    ∙ ap₂ (λ (v : List ℕ) (x : Portion). tag_by keys.cipher keys.hash v (outside_of x.first x.stop x.rest q) (inside_of x.first x.stop x.rest q)) ei er
+    ∙ ap₂ (λ (v : List ℕ) (x : Bounds). tag_by keys.cipher keys.hash v (outside_of x.first x.stop x.rest q) (inside_of x.first x.stop x.rest q)) ei er
 
 -- policies 1 and 2 tag alike
 pub tag-alike : (suite : Suite) (keys : Keys) (ssrc index : ℕ) (p q : List ℕ) → p ≡ q → tag_of suite keys CryptexRequired ssrc index p ≡ tag_of suite keys Cryptex ssrc index q

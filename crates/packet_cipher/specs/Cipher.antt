@@ -13,18 +13,18 @@ use Rattle.suites.specs.Suites.{salt_length_of}
 use Rattle.rtp_header.specs.declared.header.Layout.{Layout}
 use Rattle.rtp_header.specs.Header.{layout_of, block_of}
 use Rattle.rtp_elements.specs.Mask.{mask_of, masked_pad}
-use Rattle.packet_cipher.specs.declared.cipher.Portion.{Portion}
+use Rattle.bits.specs.Portion.{Bounds}
 use Rattle.packet_cipher.specs.declared.keys.Keys.{Keys}
 use Rattle.policies.specs.declared.policy.Policy.{Policy}
 use Rattle.policies.specs.Policies.{uses_mask}
 use Rattle.policies.specs.Cryptex.{is_cryptex}
 
 -- The encrypted portion: under Cryptex CSRC identifiers, header extension data and payload, without the four bytes of the extension header; else the payload.
-abbrev pub portion_of : Bool → Layout → Portion
+abbrev pub portion_of : Bool → Layout → Bounds
 portion_of true h = record { first = h.contributors; stop = h.extension; rest = h.block }
 portion_of false h = record { first = h.payload; stop = h.payload; rest = h.payload }
 
-abbrev pub portion_pad_of : Portion → (ℕ → ℕ) → ℕ → ℕ
+abbrev pub portion_pad_of : Bounds → (ℕ → ℕ) → ℕ → ℕ
 portion_pad_of r stream = portion_pad r.first r.stop r.rest stream
 
 -- policy 3, on the block: the header keystream where the mask is FF, byte k for block byte k

@@ -12,13 +12,13 @@ use Rattle.suites.specs.Suites.{tag_length_of}
 use Rattle.rtp_header.specs.Header.{layout_of}
 use Rattle.policies.specs.declared.policy.Policy.{Policy}
 use Rattle.policies.specs.Cryptex.{is_cryptex}
-use Rattle.packet_cipher.specs.declared.cipher.Portion.{Portion}
+use Rattle.bits.specs.Portion.{Bounds}
 use Rattle.packet_cipher.specs.declared.keys.Keys.{Keys}
 use Rattle.packet_cipher.specs.Cipher.{portion_of, packet_iv}
 
 -- "Associated data": all that is not encrypted. In a plain packet that is the whole header; under Cryptex the fixed header and the four bytes of the extension
 -- header, without contributing sources (RFC 9335, 6.2). What is encrypted is the cipher text.
-abbrev pub encrypted_in : Policy → List ℕ → Portion
+abbrev pub encrypted_in : Policy → List ℕ → Bounds
 encrypted_in policy p = portion_of (is_cryptex policy (layout_of p)) (layout_of p)
 
 abbrev pub associated_data : Policy → List ℕ → List ℕ

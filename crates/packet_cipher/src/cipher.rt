@@ -8,33 +8,28 @@ ghost use Rattle.policies.specs.Judging.{elements_fit};
 
 use crate::context::Context;
 use aes_cm::portion::xor_portion;
-use aes_tables::tables;
+use aes_tables::tables::{self, Tables};
+use bits::portion::Portion;
 use element_cipher::elements::crypt_elements;
 use rtp_header::header::Layout;
 
-// The bytes from `first` up to `stop`, and then from `rest` on, in one unbroken keystream.
-#[derive(Clone, Copy)]
-pub struct Portion {
-    pub first: usize,
-    pub stop: usize,
-    pub rest: usize,
-}
-
 // What the packet's own keystream goes onto.
 pub fn encrypted_portion(cryptex: bool, h: Layout) -> Portion
+    requires { (h.contributors ≤ h.extension) × (h.extension ≤ h.block) }
     ensures { result ≡ portion_of cryptex h }
 {
     if cryptex {
-        return Portion {
+        Portion {
             first: h.contributors,
             stop: h.extension,
             rest: h.block,
-        };
-    }
-    Portion {
-        first: h.payload,
-        stop: h.payload,
-        rest: h.payload,
+        }
+    } else {
+        Portion {
+            first: h.payload,
+            stop: h.payload,
+            rest: h.payload,
+        }
     }
 }
 
@@ -46,18 +41,19 @@ pub fn crypt(context: &Context, packet: &mut [u8], h: Layout)
     ensures { packet.new ≡ cipher_of CmHmac context.now.keys context.now.policy (listed_in context.now.ids) context.now.ssrc context.now.index packet.old }
 {
     let sbox = tables::sbox();
-    let table = tables::round_table();
+    let round = tables::round_table();
+    let tables = Tables {
+        sbox: &sbox,
+        round: &round,
+    };
     let keys = &context.keys;
     let ssrc = context.ssrc;
     let index = context.index;
     let r = encrypted_portion(context.policy.is_cryptex(h), h);
-    xor_portion(
-        &sbox, &table, keys.cipher, keys.salt, ssrc, index, packet, r.first, r.stop, r.rest,
-    );
+    xor_portion(tables, keys.cipher, keys.salt, ssrc, index, packet, r);
     if context.policy.uses_mask() {
         crypt_elements(
-            &sbox,
-            &table,
+            tables,
             keys.header_cipher,
             keys.header_salt,
             ssrc,

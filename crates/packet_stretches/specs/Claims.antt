@@ -14,7 +14,7 @@ use Rattle.policies.specs.declared.policy.Way.TheVariants.{Sending, Receiving}
 use Rattle.policies.specs.Policies.{uses_mask}
 use Rattle.policies.specs.Cryptex.{is_cryptex, tagged_of}
 use Rattle.policies.specs.Judging.{judged_of}
-use Rattle.packet_cipher.specs.declared.cipher.Portion.{Portion}
+use Rattle.bits.specs.Portion.{Bounds}
 use Rattle.packet_cipher.specs.declared.keys.Keys.{Keys}
 use Rattle.suites.specs.declared.suite.Suite.TheVariants.{CmHmac}
 use Rattle.packet_cipher.specs.Cipher.{portion_of, cipher_of}
@@ -28,16 +28,16 @@ pub record Fits (p : List ℕ) : Type 0 where
 -- ---- Policies 0 to 2: two neighbouring stretches. Under Cryptex the contributors, and then block and payload, with the extension header between them; else an
 -- empty one, and the payload.
 
-abbrev pub encrypted_of : Policy → List ℕ → Portion
+abbrev pub encrypted_of : Policy → List ℕ → Bounds
 encrypted_of policy p = portion_of (is_cryptex policy (layout_of p)) (layout_of p)
 
-abbrev pub stretched_front : Keys → ℕ → ℕ → Portion → List ℕ → Stretched
+abbrev pub stretched_front : Keys → ℕ → ℕ → Bounds → List ℕ → Stretched
 stretched_front keys ssrc index r p = stretch_of keys.cipher keys.salt ssrc index 0 (take (r.stop - r.first) (drop r.first p))
 
-abbrev pub stretched_back : Keys → ℕ → ℕ → Portion → List ℕ → Stretched
+abbrev pub stretched_back : Keys → ℕ → ℕ → Bounds → List ℕ → Stretched
 stretched_back keys ssrc index r p = stretch_of keys.cipher keys.salt ssrc index (r.stop - r.first) (drop r.rest p)
 
-pub record TwoStretches (keys : Keys) (policy : Policy) (listed : ℕ → Bool) (ssrc index : ℕ) (r : Portion) (p : List ℕ) : Type 0 where
+pub record TwoStretches (keys : Keys) (policy : Policy) (listed : ℕ → Bool) (ssrc index : ℕ) (r : Bounds) (p : List ℕ) : Type 0 where
   pub front : (stretched_front keys ssrc index r p).number ≡ 0
   pub back : (stretched_back keys ssrc index r p).number ≡ 0
   pub bytes : cipher_of CmHmac keys policy listed ssrc index p

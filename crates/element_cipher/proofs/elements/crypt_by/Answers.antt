@@ -27,7 +27,7 @@ crypt_element-t-requires c =
     let p = c.requires in
     let s = stepped in
     let v = c.loop-element.invariant in
-    record { lent = p.lent; started = p.started; at_le_begin = (omega (arith, s.after, v.1.0), (omega arith, (s.inside, omega (arith, v.0.size, p.block_value.1)))); holds = v.1.1 }
+    record { at_le_begin = (omega (arith, s.after, v.1.0), (omega arith, (s.inside, omega (arith, v.0.size, p.block_value.1)))); holds = v.1.1 }
 
 pub loop-element-smaller-then-is_listed : goal.loop-element-smaller-then-is_listed
 loop-element-smaller-then-is_listed c =
@@ -43,7 +43,7 @@ loop-element-preserved-then-is_listed c =
     let x = c.crypt_element-t in
     let e = element in
     let a = c.args in
-    let stream = byte_from a.start.key a.start.block in (
+    let stream = byte_from a.blocks.now.cipher.key a.blocks.now.block in (
       masking-next _ _ _ _ _ _ _ c.loop-element.invariant.0 stepped (sym c.is_listed.ensures ∙ c.if-is_listed.true) _ refl _
           (stretched-element stream c.loop-element.block e.begin e.length _ stepped.inside x.ensures.block_after),
       (omega (arith, x.ensures.at_value.0), x.ensures.at_value.1),

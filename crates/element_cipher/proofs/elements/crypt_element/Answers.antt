@@ -16,7 +16,7 @@ use Rattle.element_cipher.proofs.elements.crypt_element.Goals as goal
 pub skip-t-requires : goal.skip-t-requires
 skip-t-requires c =
     let bounds : (c.args.begin ≤ c.args.end) × ((c.args.end ≤ length c.args.block.now) × (length c.args.block.now ≤ keystream_end)) = c.requires.at_le_begin.1 in
-    let p = c.requires in let b = bounds in record { lent = p.lent; started = p.started; at_le_to = (p.at_le_begin.0, omega (arith, b.0, b.1.0, b.1.1)); holds = p.holds }
+    let p = c.requires in let b = bounds in record { at_le_to = (p.at_le_begin.0, omega (arith, b.0, b.1.0, b.1.1)); holds = p.holds }
 
 pub xor_held-u-requires : goal.xor_held-u-requires
 xor_held-u-requires c =
@@ -29,7 +29,7 @@ xor_held-u-requires c =
 pub xor_stretch-requires : goal.xor_stretch-requires
 xor_stretch-requires c =
     let reach : ℕ = c.xor_held-u.result.at in
-    let stream : ℕ → ℕ = byte_from c.args.start.key c.args.start.block in
+    let stream : ℕ → ℕ = byte_from c.args.blocks.now.cipher.key c.args.blocks.now.block in
     let after : List ℕ =
     let a = c.args in
     take a.begin a.block.now ++ (c.xor_held-u.new.buf ++ drop (a.end - a.begin) (drop a.begin a.block.now)) in
@@ -38,13 +38,13 @@ xor_stretch-requires c =
     let a = c.args in
     let b = bounds in
     omega (arith, c.xor_held-u.ensures.used.within, part_length a.begin a.end a.block.now b.1.0, c.skip-t.ensures.0, b.0) in
-    let held : Holds c.args.start.key c.args.start.block c.xor_held-u.result
+    let held : Holds c.args.blocks.now.cipher.key c.args.blocks.now.block c.xor_held-u.result
     × (after ≡ xor_pad (stretch_pad c.args.begin reach c.args.begin stream) c.args.block.now) =
     let a = c.args in
     let b = bounds in
     let t = c.skip-t in
     let u = c.xor_held-u.ensures.used in
-    let y = c.xor_held-u.ensures.by_index a.start.key a.start.block t.ensures.1 in
+    let y = c.xor_held-u.ensures.by_index a.blocks.now.cipher.key a.blocks.now.block t.ensures.1 in
     let n = reach - t.result.at in
     let r : a.begin + n ≡ reach = omega (arith, t.ensures.0, u.forward) in (
       y.0,
@@ -56,12 +56,12 @@ xor_stretch-requires c =
     let b = bounds in
     let e = c.args.end in
     let n = part_length reach e after (omega (arith, size_of, b.1.0)) in
-    record { lent = p.lent; started = p.started; buf_value = not-large reach (length (take (e - reach) (drop reach after))) (omega (arith, n, within, b.1.0, b.1.1)); holds = held.0 }
+    record { buf_value = not-large reach (length (take (e - reach) (drop reach after))) (omega (arith, n, within, b.1.0, b.1.1)); holds = held.0 }
 
 pub returns-then-a-end : goal.returns-then-a-end
 returns-then-a-end c =
     let reach : ℕ = c.xor_held-u.result.at in
-    let stream : ℕ → ℕ = byte_from c.args.start.key c.args.start.block in
+    let stream : ℕ → ℕ = byte_from c.args.blocks.now.cipher.key c.args.blocks.now.block in
     let after : List ℕ =
     let a = c.args in
     take a.begin a.block.now ++ (c.xor_held-u.new.buf ++ drop (a.end - a.begin) (drop a.begin a.block.now)) in
@@ -70,13 +70,13 @@ returns-then-a-end c =
     let a = c.args in
     let b = bounds in
     omega (arith, c.xor_held-u.ensures.used.within, part_length a.begin a.end a.block.now b.1.0, c.skip-t.ensures.0, b.0) in
-    let held : Holds c.args.start.key c.args.start.block c.xor_held-u.result
+    let held : Holds c.args.blocks.now.cipher.key c.args.blocks.now.block c.xor_held-u.result
     × (after ≡ xor_pad (stretch_pad c.args.begin reach c.args.begin stream) c.args.block.now) =
     let a = c.args in
     let b = bounds in
     let t = c.skip-t in
     let u = c.xor_held-u.ensures.used in
-    let y = c.xor_held-u.ensures.by_index a.start.key a.start.block t.ensures.1 in
+    let y = c.xor_held-u.ensures.by_index a.blocks.now.cipher.key a.blocks.now.block t.ensures.1 in
     let n = reach - t.result.at in
     let r : a.begin + n ≡ reach = omega (arith, t.ensures.0, u.forward) in (
       y.0,
@@ -101,7 +101,7 @@ returns-then-a-end c =
 pub returns : goal.returns
 returns c =
     let reach : ℕ = c.xor_held-u.result.at in
-    let stream : ℕ → ℕ = byte_from c.args.start.key c.args.start.block in
+    let stream : ℕ → ℕ = byte_from c.args.blocks.now.cipher.key c.args.blocks.now.block in
     let after : List ℕ =
     let a = c.args in
     take a.begin a.block.now ++ (c.xor_held-u.new.buf ++ drop (a.end - a.begin) (drop a.begin a.block.now)) in
@@ -110,13 +110,13 @@ returns c =
     let a = c.args in
     let b = bounds in
     omega (arith, c.xor_held-u.ensures.used.within, part_length a.begin a.end a.block.now b.1.0, c.skip-t.ensures.0, b.0) in
-    let held : Holds c.args.start.key c.args.start.block c.xor_held-u.result
+    let held : Holds c.args.blocks.now.cipher.key c.args.blocks.now.block c.xor_held-u.result
     × (after ≡ xor_pad (stretch_pad c.args.begin reach c.args.begin stream) c.args.block.now) =
     let a = c.args in
     let b = bounds in
     let t = c.skip-t in
     let u = c.xor_held-u.ensures.used in
-    let y = c.xor_held-u.ensures.by_index a.start.key a.start.block t.ensures.1 in
+    let y = c.xor_held-u.ensures.by_index a.blocks.now.cipher.key a.blocks.now.block t.ensures.1 in
     let n = reach - t.result.at in
     let r : a.begin + n ≡ reach = omega (arith, t.ensures.0, u.forward) in (
       y.0,

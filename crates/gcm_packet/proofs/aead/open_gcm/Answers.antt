@@ -14,6 +14,9 @@ use Rattle.packet_cipher.proofs.Passes.{sound-read, portion-order}
 use Rattle.packet_cipher.proofs.Tagging.{tag-gcm}
 use Rattle.gcm_packet.proofs.aead.open_gcm.Goals as goal
 
+pub encrypted_portion-r-requires : goal.encrypted_portion-r-requires
+encrypted_portion-r-requires c = let s = sound-read _ _ (read c.args.context.now.policy 16 c.args.buf.now c.args.n c.args.h c.requires.0 c.requires.1) in omega (arith, s.contributors, s.count, s.block)
+
 pub overflow_sub-m : goal.overflow_sub-m
 overflow_sub-m c = omega (arith, long c.args.context.now.policy 16 c.args.buf.now c.args.n c.args.h c.requires.0 c.requires.1)
 
@@ -21,7 +24,7 @@ pub tag-made-requires : goal.tag-made-requires
 tag-made-requires c =
     let z : c.args.n - 16 - 0 ≡ c.args.n - 16 = omega arith in
     let o = portion-order c.is_cryptex.result c.args.h _ (sound-read _ _ (read c.args.context.now.policy 16 c.args.buf.now c.args.n c.args.h c.requires.0 c.requires.1)) (fits c.args.context.now.policy 16 c.args.buf.now c.args.n c.args.h c.requires.0 c.requires.1) in
-    rw (c.encrypted_portion-r.ensures, z) (o.0, (o.1.0, (o.1.1, omega (arith, small c.args.context.now.policy 16 c.args.buf.now c.args.n c.args.h c.requires.0 c.requires.1))))
+    rw (c.encrypted_portion-r.ensures, z) (o.1.1, omega (arith, small c.args.context.now.policy 16 c.args.buf.now c.args.n c.args.h c.requires.0 c.requires.1))
 
 pub returns-then-differs : goal.returns-then-differs
 returns-then-differs c =
@@ -40,7 +43,7 @@ pub crypt-requires : goal.crypt-requires
 crypt-requires c =
     let z : c.args.n - 16 - 0 ≡ c.args.n - 16 = omega arith in
     let o = portion-order c.is_cryptex.result c.args.h _ (sound-read _ _ (read c.args.context.now.policy 16 c.args.buf.now c.args.n c.args.h c.requires.0 c.requires.1)) (fits c.args.context.now.policy 16 c.args.buf.now c.args.n c.args.h c.requires.0 c.requires.1) in
-    rw (c.encrypted_portion-r.ensures, z) (o.0, (o.1.0, (o.1.1, omega (arith, small c.args.context.now.policy 16 c.args.buf.now c.args.n c.args.h c.requires.0 c.requires.1))))
+    rw (c.encrypted_portion-r.ensures, z) (o.1.1, omega (arith, small c.args.context.now.policy 16 c.args.buf.now c.args.n c.args.h c.requires.0 c.requires.1))
 
 pub returns : goal.returns
 returns c =

@@ -13,15 +13,18 @@ use Rattle.gcm_packet.proofs.aead.seal_gcm.Goals as goal
 kept : {m n k : ℕ} → m ≡ n → k ≤ n → k ≤ m
 kept e h = omega arith
 
+pub encrypted_portion-r-requires : goal.encrypted_portion-r-requires
+encrypted_portion-r-requires c = let s = sound-read _ _ c.requires.layout in omega (arith, s.contributors, s.count, s.block)
+
 pub crypt-requires : goal.crypt-requires
 crypt-requires c =
     let o = portion-order c.is_cryptex.result c.args.h _ (sound-read _ _ c.requires.layout) c.requires.inside in
-    rw c.encrypted_portion-r.ensures (o.0, (o.1.0, (o.1.1, omega (arith, c.requires.small))))
+    rw c.encrypted_portion-r.ensures (o.1.1, omega (arith, c.requires.small))
 
 pub tag-requires : goal.tag-requires
 tag-requires c =
     let o = portion-order c.is_cryptex.result c.args.h _ (sound-read _ _ c.requires.layout) c.requires.inside in
-    rw c.encrypted_portion-r.ensures (o.0, (o.1.0, (kept (omega arith) o.1.1, omega (arith, c.requires.small))))
+    rw c.encrypted_portion-r.ensures (kept (omega arith) o.1.1, omega (arith, c.requires.small))
 
 pub returns : goal.returns
 returns c =

@@ -12,10 +12,13 @@ use Rattle.packet_cipher.specs.Cipher.{portion_of, portion_pad_of, stream_of, he
 use Rattle.packet_cipher.proofs.Passes.{sound-read, whole-block, portion-order, whole-stays, size-stays, payload-only, crypted-plain, crypted-masked, under-mask}
 use Rattle.packet_cipher.proofs.cipher.crypt.Goals as goal
 
+pub encrypted_portion-r-requires : goal.encrypted_portion-r-requires
+encrypted_portion-r-requires c = let s = sound-read _ _ c.requires.h_value.0 in omega (arith, s.contributors, s.count, s.block)
+
 pub xor_portion-requires : goal.xor_portion-requires
 xor_portion-requires c =
     let o = portion-order c.is_cryptex.result c.args.h _ (sound-read _ _ c.requires.h_value.0) c.requires.h_value.1.0 in
-    record { sbox_table = (c.sbox-sbox.ensures, c.round_table-table.ensures); first_le_stop = rw c.encrypted_portion-r.ensures (o.0, (o.1.0, (o.1.1, omega arith))) }
+    record { rest_le_length = rw c.encrypted_portion-r.ensures (o.1.1, omega arith) }
 
 pub slice_bounds-crypt_elements-count : goal.slice_bounds-crypt_elements-count
 slice_bounds-crypt_elements-count c = (sound-read _ _ c.requires.h_value.0).payload
@@ -39,7 +42,7 @@ crypt_elements-requires c =
     let e = payload-passed m in
     let w = whole-block a.context.now.policy h a.packet.now m c.requires.packet_value in
     let n = size-stays h stream a.packet.now _ e (sound-read _ _ p.0) p.1.0 in
-    record { sbox_table = (c.sbox-sbox.ensures, c.round_table-table.ensures); block_value = (whole-stays h stream a.packet.now _ e w, omega (arith, n, p.1.0, p.1.1)) }
+    record { block_value = (whole-stays h stream a.packet.now _ e w, omega (arith, n, p.1.0, p.1.1)) }
 
 pub returns-then-uses_mask : goal.returns-then-uses_mask
 returns-then-uses_mask c =
