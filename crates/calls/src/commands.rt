@@ -6,7 +6,6 @@ use crate::sessions::on_session;
 use element_lines::find::find_element;
 use index_lines::guess::guess_index;
 use mask_lines::mask::mask_block;
-use memory::copying::clear;
 use std::io;
 use stretch_lines::stretch::stretch_data;
 use text::words::{count, first_among, well_spaced};
@@ -17,7 +16,7 @@ fn new_case(desk: &mut [u64], line: &[u8], out: &mut [u8]) -> usize {
     if count(line) < 2 {
         return 0;
     }
-    clear(desk);
+    desk.fill(0);
     put_text(out, 0, line)
 }
 
