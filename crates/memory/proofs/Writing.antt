@@ -1,35 +1,12 @@
--- Words put into memory: stores beside each other, and fields put one after the other.
+-- Words put into memory: fields put one after the other.
 use mathlib.Core.Path.{◌≡◌, sym, ap, ap₂, ◌∙◌}
 use mathlib.Core.List.{List, [], ◌∷◌, ◌++◌, append_assoc, map}
-use Prim.Native.Nat.{ℕ, suc, ◌+◌, ◌≤◌, ◌<◌}
-use native.Mathlib.Numerals.{add-one}
+use Prim.Native.Nat.{ℕ, ◌+◌, ◌≤◌}
 use native.Mathlib.Omega.{arith}
-use lib.ListN.{length, get_or, set, take, drop, length-append, take-append-drop}
-use lib.Seq.{length-take-le, take_all, take_at, drop_at, drop-drop, sets-eq, paste, paste-suc}
-use Rattle.bits.proofs.Lists.{tabulated}
+use lib.ListN.{length, take, drop, length-append, take-append-drop}
+use lib.Seq.{length-take-le, take_at, drop_at, drop-drop}
 use Rattle.memory.specs.Parts.{with_part, total, join}
 use Rattle.memory.proofs.Parts.{with-length, join-length}
-
--- ---- stores
-
-pub two-stored : (words : List ℕ) (at : ℕ) (two : List ℕ) → length two ≡ 2 → at + 2 ≤ length words
-    → set (set words at (get_or two 0 0)) (at + 1) (get_or two 1 0) ≡ with_part at two words
-two-stored words at two n h =
-    let z : at + 1 ≡ suc at = omega arith in
-    let both = get_or two 0 0 ∷ get_or two 1 0 ∷ [] in
-    ap (λ (k : ℕ). set (set words at (get_or two 0 0)) k (get_or two 1 0)) z
-    ∙ sets-eq both words at h ∙ append_assoc (take at words) both (drop (at + 2) words)
-    ∙ ap (λ (l : List ℕ). with_part at l words) (tabulated 0 2 two n)
-
--- one more element of p
-pub next-stored : (words : List ℕ) (at : ℕ) (p : List ℕ) (i : ℕ) (now : List ℕ) (x : ℕ) → now ≡ paste words at p i → x ≡ get_or p i 0
-    → at + i < length words → i < length p → set now (at + i) x ≡ paste words at p (i + 1)
-next-stored words at p i now x e f h k = rw (add-one, e, f) (paste-suc words at p i 0 h k)
-
-pub all-stored : (words : List ℕ) (at : ℕ) (p : List ℕ) (i : ℕ) → i ≡ length p → paste words at p i ≡ with_part at p words
-all-stored words at p i e =
-    append_assoc (take at words) (take i p) (drop (at + i) words)
-    ∙ ap₂ (λ (l : List ℕ) (k : ℕ). take at words ++ (l ++ drop (at + k) words)) (take_all i p (omega arith)) e
 
 -- ---- parts
 

@@ -21,6 +21,7 @@ pub fn head_word(ssrc: u32, way: Way) -> u64
 }
 
 // The place of the first record whose first word passes a test.
+// A `for`, since what `find` on a range says of a test that is a parameter does not reach the contract.
 fn first_place<F: Fn(u64) -> bool>(session: &[u64; SIZE], test: F) -> Option<usize>
     requires { F.IsAlwaysCallable test }
     ensures { MatchOption result ((k : ℕ) → k < 32 → F.post test (word session.now (record_place k)) false) (λ i. (i < 32) × F.post test (word session.now (record_place i)) true × ((k : ℕ) → k < i → F.post test (word session.now (record_place k)) false)) }

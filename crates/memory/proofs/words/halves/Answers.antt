@@ -13,7 +13,7 @@ returns-clause-value c =
     let s = c.split_at.ensures in
     let m = c.copy_from_slice-2.ensures.after in
     ap₂ (λ (i k : ℕ). i ∷ k ∷ []) (c.read64.ensures ∙ ap from_bytes (c.copy_from_slice.ensures.after ∙ s.front))
-    (c.read64-2.ensures ∙ after-zeros (8 - length c.split_at.result.1.now) c.copy_from_slice-2.new.self _ (omega (arith, m, ap length m)) (m ∙ s.back))
+    (c.read64-2.ensures ∙ after-zeros (8 - length c.split_at.result.1.now) c.copy_from_slice-2.new.self _ (omega (arith, ap length m)) (m ∙ s.back))
 
 pub returns-clause-lasts : goal.returns-clause-lasts
 returns-clause-lasts c =
