@@ -23,8 +23,8 @@ returns-then-not-unprotect_packet c =
     let w = rw (e.keys, e.policy, e.suite, e.ids, e.ssrc, e.index) at c.unprotect_packet.ensures.buf_after in
     wrong-tag a.session.now a.opened.place a.buf.now a.n _ _ c.requires.placed.index _ v w c.if-not-unprotect_packet.true
 
-pub overflow_sub-field-0 : goal.overflow_sub-field-0
-overflow_sub-field-0 c =
+pub overflow_sub-result : goal.overflow_sub-result
+overflow_sub-result c =
     let r = c.requires.readable in
     omega (arith, judged-whole _ _ _ _ _ _ r.inside r.judged, c.tag_length.ensures.0 ∙ ap tag_length_of c.context_of-context.ensures.suite)
 
