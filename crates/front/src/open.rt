@@ -1,5 +1,6 @@
 // What every packet call asks before it uses a key, with the way as an argument.
 ghost use Rattle.std.specs.Prelude.{◌≡◌, ◌≤◌, length};
+ghost use Rattle.front.specs.declared.open.Shut.TheVariants.{Refused};
 ghost use Rattle.front.specs.Opening.{stream_of, in_session_of, open_of, shut_number, InStream, OpensAs, Opens};
 
 use crate::fields::{sequence_number, ssrc};
@@ -25,6 +26,14 @@ pub struct Opened {
 pub enum Shut {
     Border(Border),
     Refused(Refusal),
+}
+
+impl From<Refusal> for Shut {
+    ghost from_gives = { λ refusal shut. shut ≡ Refused refusal };
+
+    fn from(refusal: Refusal) -> Shut {
+        Shut::Refused(refusal)
+    }
 }
 
 impl From<Shut> for u32 {
@@ -61,12 +70,7 @@ fn in_stream(
 }
 
 // LENGTH, SHORT to LARGE, ROOM, and then the rest. The second `ensures` follows from the first; callers have it ready.
-fn in_session(
-    session: &[u64; SIZE],
-    buf: &[u8],
-    n: usize,
-    way: Way,
-) -> Result<Opened, Refusal>
+fn in_session(session: &[u64; SIZE], buf: &[u8], n: usize, way: Way) -> Result<Opened, Refusal>
     ensures value { result ≡ in_session_of way session.now buf.now n }
     ensures opens_as { OpensAs way session.now buf.now n result }
 {
@@ -91,5 +95,5 @@ pub fn open(session: &[u64], buf: &[u8], n: usize, way: Way) -> Result<Opened, S
     let Some(session) = session.as_array::<SIZE>() else {
         return Err(Shut::Border(Border::Memory));
     };
-    in_session(session, buf, n, way).map_err(Shut::Refused)
+    Ok(in_session(session, buf, n, way)?)
 }

@@ -14,13 +14,13 @@ use Rattle.memory.proofs.Parts.{came-back}
 use Rattle.adding.proofs.add.add.Goals as goal
 
 pub returns-in_default : goal.returns-in_default
-returns-in_default c = let a = c.args in add-memory a.session.now a.ssrc a.way a.rollover c.in_default.ensures.cases
+returns-in_default c = let a = c.args in rw c.from.ensures (add-memory a.session.now a.ssrc a.way a.rollover c.in_default.ensures.cases)
 
 pub returns-in_default-way_of : goal.returns-in_default-way_of
 returns-in_default-way_of c =
     let a = c.args in
     let e = c.in-Some.ensures.cases in
-    rw e.same (add-way a.session.now a.ssrc a.way a.rollover e.long c.in_default-way_of.ensures)
+    rw (e.same, c.from-in_default-way_of.ensures) (add-way a.session.now a.ssrc a.way a.rollover e.long c.in_default-way_of.ensures)
 
 pub returns-in-Ok : goal.returns-in-Ok
 returns-in-Ok c =
