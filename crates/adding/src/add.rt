@@ -48,7 +48,8 @@ fn place_for(session: &[u64; SIZE], ssrc: u32) -> Result<usize, Refusal>
     free_place(session).ok_or(Refusal::Full)
 }
 
-// A stream to send (way 0) or to receive (way 1), whose first packet has the starting rollover. A refusal changes nothing.
+// A stream to send (way 0) or to receive (way 1), whose first packet has the starting rollover. A refusal changes nothing. (Way and what is given back are numbers, as C passes and takes
+// them.)
 pub fn add(session: &mut [u64], ssrc: u32, way: u32, rollover: u32) -> u32
     ensures { Leaves (add_call session.old ssrc way rollover) result session.new }
 {

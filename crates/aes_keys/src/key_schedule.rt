@@ -20,7 +20,8 @@ fn next_key(tables: Tables<'_>, k: [[u8; 4]; 4], x: u8) -> [[u8; 4]; 4]
     [a, b, c, d]
 }
 
-// The eleven round keys of a key. The numbers are the powers of x in the field.
+// The eleven round keys of a key. The numbers are the powers of x in the field. (In a line: a loop would take them from an array and put each key into its place of
+// another, and be no shorter.)
 pub fn expand(tables: Tables<'_>, key: [[u8; 4]; 4]) -> [[[u8; 4]; 4]; 11]
     ensures { result ≡ round_keys_of key }
 {

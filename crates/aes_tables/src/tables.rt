@@ -22,7 +22,8 @@ const SBOX: [u8; 256] = *b"\
     \xe1\xf8\x98\x11\x69\xd9\x8e\x94\x9b\x1e\x87\xe9\xce\x55\x28\xdf\
     \x8c\xa1\x89\x0d\xbf\xe6\x42\x68\x41\x99\x2d\x0f\xb0\x54\xbb\x16";
 
-// The S-box, which the last round and the key schedule read, and the table of the other rounds; both lent.
+// The S-box, which the last round and the key schedule read, and the table of the other rounds; both lent. (Two references: a value that held both arrays would be cleared as a whole before
+// they are written, 2,200 instructions a packet.)
 #[derive(Clone, Copy)]
 pub struct Tables<'a> {
     pub sbox: &'a [u8; 256],

@@ -40,7 +40,7 @@ pub fn seal_cm(context: &Context, packet: &mut [u8], h: Layout) -> [u8; 20]
     code(context, packet)
 }
 
-// Whether the tag of the packet of n bytes is right; then, and only then, the bytes before it are decrypted.
+// Whether the tag of the packet of n bytes is right; then, and only then, the bytes before it are decrypted. (The buffer is lent whole, as the calls have it.)
 pub fn open_cm(context: &Context, buf: &mut [u8], n: usize, h: Layout) -> bool
     requires { (n ≤ length buf.old) × (judged_of Way.Receiving context.now.policy (tag_length_of CmHmac) (take n buf.old) ≡ Ok h) }
     ensures value { result ≡ tag_fits CmHmac context.now.keys context.now.policy context.now.ssrc context.now.index (take n buf.old) }

@@ -11,7 +11,8 @@ fn raise(buf: &mut [u8], at: usize, n: usize)
     buf.copy_within(at..n, at + 4);
 }
 
-// A packet of n bytes whose contributing sources end at `at` becomes one of n + 4, with X = 1 and BEDE 0000 after them.
+// A packet of n bytes whose contributing sources end at `at` becomes one of n + 4, with X = 1 and BEDE 0000 after them. (n stands beside the buffer, which has room behind
+// the packet: what follows stays.)
 pub fn add_block(buf: &mut [u8], at: usize, n: usize)
     requires { (0 < at) × ((at ≤ n) × ((n + 4 ≤ length buf.old) × (get_or buf.old 0 0 < 240))) }
     ensures { buf.new ≡ with_block (take n buf.old) at ++ drop (n + 4) buf.old }

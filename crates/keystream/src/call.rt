@@ -7,7 +7,7 @@ use crate::stretch::stretch;
 use bits::arrays::array;
 use bits::refusal::Border;
 
-// 0, and the keystream from byte `start` on over the whole buffer; or the number of a refusal, and the buffer as it was.
+// 0, and the keystream from byte `start` on over the whole buffer; or the number of a refusal, as C takes it, and the buffer as it was.
 pub fn stretch_call(
     key: &[u8],
     salt: &[u8],

@@ -29,7 +29,7 @@ fn judge(suite: Suite, key: usize, salt: usize, policy: u64) -> Result<(), Refus
 }
 
 // A session of suite 0, AES_CM_128_HMAC_SHA1_80, or 1, AEAD_AES_128_GCM. Refused with 15 or 16, memory holds the unmade session, which takes no stream; refused with
-// 100 or 103, it is as it was.
+// 100 or 103, it is as it was. (Policy, suite and what is given back are numbers, as C passes and takes them.)
 pub fn make(
     session: &mut [u64],
     key: &[u8],

@@ -12,7 +12,8 @@ use packet_seal::seal::{open, seal};
 use policies::policy::Way;
 use rtp_header::header::Layout;
 
-// The packet of n bytes at the start of the buffer, whose layout is h, becomes the protected one; its length. The bytes after it stay.
+// The packet of n bytes at the start of the buffer, whose layout is h, becomes the protected one; its length. The bytes after it stay: the buffer is lent whole, with room
+// for block and tag, and n beside it.
 pub fn protect_packet(context: &Context, buf: &mut [u8], n: usize, h: Layout) -> usize
     requires n_in_bounds { (n ≤ length buf.old) × (judged_of Way.Sending context.now.policy (tag_length_of context.now.suite) (take n buf.old) ≡ Ok h) }
     requires h_in_bounds { n + added_of Way.Sending context.now.policy (tag_length_of context.now.suite) h ≤ length buf.old }

@@ -25,7 +25,7 @@ pub struct Formed {
     pub layout: Layout,
 }
 
-// The packet of n bytes at the start of the buffer, with the empty block where Cryptex adds one. The bytes after it stay.
+// The packet of n bytes at the start of the buffer, with the empty block where Cryptex adds one. The bytes after it stay, so the buffer is lent whole and n beside it.
 fn raise(policy: Policy, buf: &mut [u8], n: usize, h: Layout) -> Formed
     requires n_in_bounds { (n ≤ length buf.old) × Sendable policy (take n buf.old) h }
     requires h_in_bounds { n + pick (adds_block policy h) 4 0 ≤ length buf.old }
@@ -69,7 +69,7 @@ fn say_cryptex(policy: Policy, packet: &mut [u8], h: Layout) -> Layout
     h
 }
 
-// The packet of n bytes at the start of the buffer into the form that is encrypted and sent. The bytes after it stay.
+// The packet of n bytes at the start of the buffer into the form that is encrypted and sent. The bytes after it stay (n as above).
 pub fn to_wire(policy: Policy, buf: &mut [u8], n: usize, h: Layout) -> Formed
     requires n_in_bounds { (n ≤ length buf.old) × Sendable policy (take n buf.old) h }
     requires h_in_bounds { n + pick (adds_block policy h) 4 0 ≤ length buf.old }
