@@ -1,37 +1,39 @@
 // The hash of associated data and cipher text, each in two parts that may lie anywhere; and of a buffer whose encrypted portion has a gap, whose parts they are.
+// Any lists may be lent to `feed_two` and `hash_by`, so whose multiples they are is a premise of what is said.
 ghost use Rattle.std.specs.Prelude.{◌≡◌, List, ◌++◌, ℕ, ◌^◌, ◌≤◌, ◌<◌, length};
 ghost use Rattle.bits.specs.BigEndian.{from_bytes};
-ghost use Rattle.gf128.specs.Steps.{value_of};
 ghost use Rattle.ghash.specs.Ghash.{padded_of};
+ghost use Rattle.gf128_product.specs.Steps.{KeyTable};
 ghost use Rattle.ghash.specs.Steps.{Fed};
 ghost use Rattle.gcm_hash.specs.Hash.{hash_of};
 ghost use Rattle.gcm_hash.specs.Portion.{outside_of, inside_of};
 
 use bits::portion::Portion;
 use gf128::block::Block;
-use gf128_product::table::Table;
+use gf128_product::table::key_table;
+use ghash::hash::{feed, finish, pad, start};
 use ghash::state::Hash;
 
 // Two parts, and the zeros after them.
-fn feed_two(table: &Table, s: Hash, x: &[u8], y: &[u8]) -> Hash
-    ensures { (l : List ℕ) → Fed (value_of table.now.subkey) l s → Fed (value_of table.now.subkey) (padded_of ((l ++ x.now) ++ y.now)) result }
+fn feed_two(table: &[[u64; 32]; 8], s: Hash, x: &[u8], y: &[u8]) -> Hash
+    ensures { (h : ℕ) (l : List ℕ) → KeyTable h table.now → Fed h l s → Fed h (padded_of ((l ++ x.now) ++ y.now)) result }
 {
-    let t = s.feed(table, x);
-    let u = t.feed(table, y);
-    u.pad(table)
+    let t = feed(table, s, x);
+    let u = feed(table, t, y);
+    pad(table, u)
 }
 
 // The hash under the subkey of a table.
-fn hash_by(table: &Table, a: &[u8], b: &[u8], c: &[u8], d: &[u8]) -> [u8; 16]
+fn hash_by(table: &[[u64; 32]; 8], a: &[u8], b: &[u8], c: &[u8], d: &[u8]) -> [u8; 16]
     requires { ((length a.now < 2 ^ 59) × (length b.now < 2 ^ 59)) × ((length c.now < 2 ^ 59) × (length d.now < 2 ^ 59)) }
-    ensures { result ≡ hash_of (value_of table.now.subkey) (a.now ++ b.now) (c.now ++ d.now) }
+    ensures { (h : ℕ) → KeyTable h table.now → result ≡ hash_of h (a.now ++ b.now) (c.now ++ d.now) }
 {
-    let s = Hash::start();
+    let s = start();
     let t = feed_two(table, s, a, b);
     let u = feed_two(table, t, c, d);
     let m = a.len() + b.len();
     let n = c.len() + d.len();
-    let last = u.finish(table, m, n);
+    let last = finish(table, u, m, n);
     last.to_be_bytes()
 }
 
@@ -40,7 +42,7 @@ pub fn hash_parts(subkey: [u8; 16], a: &[u8], b: &[u8], c: &[u8], d: &[u8]) -> [
     requires { ((length a.now < 2 ^ 59) × (length b.now < 2 ^ 59)) × ((length c.now < 2 ^ 59) × (length d.now < 2 ^ 59)) }
     ensures { result ≡ hash_of (from_bytes subkey) (a.now ++ b.now) (c.now ++ d.now) }
 {
-    let table = Table::of(Block::from_be_bytes(subkey));
+    let table = key_table(Block::from_be_bytes(subkey));
     hash_by(&table, a, b, c, d)
 }
 

@@ -1,18 +1,9 @@
 // The look-up table of a hash subkey. A caller makes it once and lends it.
-ghost use Rattle.std.specs.Prelude.{◌≡◌};
 ghost use Rattle.gf128.specs.Steps.{value_of};
 ghost use Rattle.gf128_product.specs.Steps.{Multiples, KeyTable};
 
 use crate::moves::moved;
 use gf128::block::Block;
-
-// A hash subkey and its multiples, and those of the subkey moved by 4, 8 and so on up to 28 bits. (A product reads the lists alone: the subkey is there to say whose they are.)
-#[derive(Drop)]
-pub struct Table {
-    pub subkey: Block,
-    pub lists: [[u64; 32]; 8],
-    pub ghost right: { KeyTable (value_of subkey) lists },
-}
 
 // The sixteen multiples of v: their high halves, then their low ones.
 fn multiples(v: Block) -> [u64; 32]
@@ -40,29 +31,25 @@ fn multiples(v: Block) -> [u64; 32]
     ]
 }
 
-impl Table {
-    pub fn of(subkey: Block) -> Table
-        ensures { result.subkey ≡ subkey }
-    {
-        let h1 = moved(subkey, 4);
-        let h2 = moved(h1, 4);
-        let h3 = moved(h2, 4);
-        let h4 = moved(h3, 4);
-        let h5 = moved(h4, 4);
-        let h6 = moved(h5, 4);
-        let h7 = moved(h6, 4);
-        Table {
-            subkey,
-            lists: [
-                multiples(subkey),
-                multiples(h1),
-                multiples(h2),
-                multiples(h3),
-                multiples(h4),
-                multiples(h5),
-                multiples(h6),
-                multiples(h7),
-            ],
-        }
-    }
+// The table of a hash subkey: its multiples, and those of the subkey moved by 4, 8 and so on up to 28 bits.
+pub fn key_table(h: Block) -> [[u64; 32]; 8]
+    ensures { KeyTable (value_of h) result }
+{
+    let h1 = moved(h, 4);
+    let h2 = moved(h1, 4);
+    let h3 = moved(h2, 4);
+    let h4 = moved(h3, 4);
+    let h5 = moved(h4, 4);
+    let h6 = moved(h5, 4);
+    let h7 = moved(h6, 4);
+    [
+        multiples(h),
+        multiples(h1),
+        multiples(h2),
+        multiples(h3),
+        multiples(h4),
+        multiples(h5),
+        multiples(h6),
+        multiples(h7),
+    ]
 }

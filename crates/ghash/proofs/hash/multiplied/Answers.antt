@@ -5,4 +5,4 @@ use Rattle.ghash.proofs.Feeding.{feed-zeros}
 use Rattle.ghash.proofs.hash.multiplied.Goals as goal
 
 pub returns : goal.returns
-returns c = c.add_blocks-r.ensures.by_index (λ z. refl) ∙ feed-zeros (value_of c.args.table.now.subkey) (value_of c.args.x) 0 15 refl
+returns c = λ h t. c.add_blocks-r.ensures.by_index h t (λ z. refl) ∙ feed-zeros h (value_of c.args.x) 0 15 refl

@@ -1,7 +1,7 @@
--- `ghash::state::Hash::start` meets its contract.
+-- `ghash::hash::start` meets its contract.
 use Rattle.std.proofs.Common.{refl}
 use Rattle.ghash.specs.Steps.{feed_of}
-use Rattle.ghash.proofs.state.Hash.start.Goals as goal
+use Rattle.ghash.proofs.hash.start.Goals as goal
 
 pub returns : goal.returns
 unfolding feed_of

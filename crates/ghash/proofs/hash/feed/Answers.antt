@@ -1,4 +1,4 @@
--- `ghash::state::Hash::feed` meets its contract.
+-- `ghash::hash::feed` meets its contract.
 use mathlib.Core.Path.{◌≡◌, sym}
 use mathlib.Core.List.{List}
 use Prim.Native.Nat.{ℕ, ◌+◌, ◌-◌, ◌*◌, ◌/◌, ◌%◌, ◌≤◌}
@@ -9,7 +9,7 @@ use lib.Seq.{length-take-le}
 use Rattle.bits.proofs.Bytes.{are-bytes}
 use Rattle.gf128.specs.Steps.{value_of}
 use Rattle.ghash.proofs.Feeding.{part_length, three-parts, fed-parts, fed-more}
-use Rattle.ghash.proofs.state.Hash.feed.Goals as goal
+use Rattle.ghash.proofs.hash.feed.Goals as goal
 
 -- where the whole blocks end, which begin at byte n
 abbrev middle : List ℕ → ℕ → ℕ
@@ -55,7 +55,6 @@ add_few-requires c =
 pub returns : goal.returns
 returns c =
     let g = c.args in
-    let h = value_of g.table.now.subkey in
     let l : List ℕ = g.part.now in
     let n = c.room-n.result in
     let m = middle l n in
@@ -65,12 +64,12 @@ returns c =
     let third = third-length l n within.0 in
     let t = c.add_few-t in
     let u = c.add_blocks-u in
-    let e : c.add_few.result.begun ≡ (g.self.begun + length l) % 16 = omega (arith, within.0, t.ensures.begun_value, u.ensures.begun_value, c.add_few.ensures.begun_value) in
-    λ k f.
-    fed-more h k l g.self c.add_few.result f (are-bytes l (λ i. (c.type_inv.part i).fits)) e
-    (fed-parts h (value_of g.self.value) g.self.begun (take n l) (take (m - n) (drop n l)) (take (length l - m) (drop m l)) l
+    let e : c.add_few.result.begun ≡ (g.s.begun + length l) % 16 = omega (arith, within.0, t.ensures.begun_value, u.ensures.begun_value, c.add_few.ensures.begun_value) in
+    λ h k q f.
+    fed-more h k l g.s c.add_few.result f (are-bytes l (λ i. (c.type_inv.part i).fits)) e
+    (fed-parts h (value_of g.s.value) g.s.begun (take n l) (take (m - n) (drop n l)) (take (length l - m) (drop m l)) l
     (value_of t.result.value) (value_of u.result.value) (value_of c.add_few.result.value) t.result.begun u.result.begun
     (three-parts l n m (omega arith) (omega (arith, within.0)))
-    (omega (arith, t.ensures.begun_value)) (omega (arith, u.ensures.begun_value)) t.ensures.by_index
-    (u.ensures.by_index (λ z. let y = c.room-n.ensures.result_value (omega arith) in omega (arith, t.ensures.begun_value)))
-    c.add_few.ensures.by_index)
+    (omega (arith, t.ensures.begun_value)) (omega (arith, u.ensures.begun_value)) (t.ensures.by_index h q)
+    (u.ensures.by_index h q (λ z. let y = c.room-n.ensures.result_value (omega arith) in omega (arith, t.ensures.begun_value)))
+    (c.add_few.ensures.by_index h q))
