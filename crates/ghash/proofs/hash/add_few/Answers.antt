@@ -11,7 +11,7 @@ returns-then-n-eq0 c =
     let g = c.args in
     record {
       begun_value = omega (arith, c.if-n-eq0.true);
-      by_index = λ h k. fed-none h (value_of g.s.value) g.s.begun g.part.now c.if-n-eq0.true;
+      by_index = λ h t. fed-none h (value_of g.s.value) g.s.begun g.part.now c.if-n-eq0.true;
     }
 
 pub returns-then-whole : goal.returns-then-whole
@@ -22,9 +22,9 @@ returns-then-whole c =
     record {
       begun_value = omega (arith, c.if-whole.true);
       by_index =
-          λ h k.
+          λ h t.
           fed-last h (value_of g.s.value) g.s.begun (value_of c.xor-x.result) (value_of c.placed.result) l (are-bytes l (λ i. (c.type_inv.part i).fits))
-          (c.placed.ensures ∙ ap (λ (k : ℕ). from_bytes l * 2 ^ (8 * (16 - (k + length l)))) e) c.xor-x.ensures (value_of c.multiplied-u.result) (omega (arith, c.if-whole.true)) (c.multiplied-u.ensures h k);
+          (c.placed.ensures ∙ ap (λ (k : ℕ). from_bytes l * 2 ^ (8 * (16 - (k + length l)))) e) c.xor-x.ensures (value_of c.multiplied-u.result) (omega (arith, c.if-whole.true)) (c.multiplied-u.ensures h t);
     }
 
 pub returns : goal.returns
@@ -35,7 +35,7 @@ returns c =
     record {
       begun_value = omega (arith, c.if-whole.false, c.requires);
       by_index =
-          λ h k.
+          λ h t.
           fed-inside h (value_of g.s.value) g.s.begun (value_of c.xor-x.result) (value_of c.placed.result) l (are-bytes l (λ i. (c.type_inv.part i).fits))
           (c.placed.ensures ∙ ap (λ (k : ℕ). from_bytes l * 2 ^ (8 * (16 - (k + length l)))) e) c.xor-x.ensures (omega (arith, c.if-whole.false, c.requires));
     }
