@@ -14,7 +14,7 @@ use records::tracks::record_place;
 use session::layout::{EACH, ROLLOVER, SIZE};
 use session::load::is_made;
 
-// 0 sends, and 1 receives.
+// 0 sends, and 1 receives. (Only here is a way passed as a number, so `Way` has no `TryFrom`.)
 fn way_of(way: u32) -> Option<Way>
     ensures { MatchOption result (1 < way) (λ w. (way ≤ 1) × (w ≡ way_of way)) }
 {

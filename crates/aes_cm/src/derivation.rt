@@ -14,7 +14,7 @@ pub struct SessionKeys {
     pub header_salt: [u8; 14],
 }
 
-// What is derived for a label goes onto a buffer of zeros, a stretch from the first byte on.
+// What is derived for a label goes onto a buffer of zeros, a stretch from the first byte on. (RFC 3711, 4.3.2, and RFC 6904, 4.1, name what is derived by the label's number alone.)
 fn derived(key: [u8; 16], salt: [u8; 14], label: u8, zeros: &mut [u8])
     requires { (zeros.old ≡ replicate (length zeros.old) 0) × (length zeros.old ≤ keystream_end) }
     ensures { zeros.new ≡ derived_of key salt label (length zeros.old) }

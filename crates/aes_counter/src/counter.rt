@@ -5,6 +5,7 @@ ghost use Rattle.aes_counter.specs.Keystream.{counter_of};
 use bits::big_endian::{write32, write64};
 
 // The input of block 0. An index of 2^48 or more is no packet's; its upper bytes meet the SSRC's last two, as the equation in RFC 3711 has it.
+// (Written out byte by byte: salt, SSRC and index overlap at places that loops would each have to name.)
 pub fn iv(salt: [u8; 14], ssrc: u32, index: u64) -> [u8; 16]
     ensures { result ≡ counter_of salt ssrc index 0 }
 {

@@ -39,7 +39,8 @@ fn crypt_element(
     u
 }
 
-// The data of listed elements, byte k of the block with byte k of the keystream; the rest of the block stays.
+// The data of listed elements, byte k of the block with byte k of the keystream; the rest of the block stays. By places and no
+// iterator: the block is written between two steps.
 fn crypt_by(blocks: &Blocks<'_>, block: &mut [u8], tag: u16, listed: &[u64; 4])
     requires block_value { (whole_of tag block.old ≡ true) × (length block.old ≤ keystream_end) }
     ensures { block.new ≡ masked_of (listed_in listed.now) tag (byte_from blocks.now.cipher.key blocks.now.block) block.old }

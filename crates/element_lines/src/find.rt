@@ -6,7 +6,7 @@ use std::fmt::{Display, Formatter, Write};
 use text::reading::{bytes, number};
 use text_output::output::Hex;
 
-// NO BEGIN DATA.
+// NO BEGIN DATA; NO is what `rtp::find::find` puts beside the part.
 #[derive(Drop)]
 pub struct Element {
     number: u8,

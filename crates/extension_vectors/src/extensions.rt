@@ -63,7 +63,7 @@ pub fn masked(rt: &impl Print, key: &[u8], salt: &[u8], block: &mut [u8]) -> io:
     println!(rt; "{}", Hex(block))
 }
 
-// An element of a packet, found in it: the part of the packet that is handed back.
+// An element of a packet, found in it: the part of the packet that is handed back, with the answer that `find` puts beside it.
 pub fn element(rt: &impl Print, packet: &[u8], id: u64) -> io::Result<()> {
     let mut answer: u8 = 0;
     let part = find(packet, (id % 256) as u8, &mut answer);

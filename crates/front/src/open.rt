@@ -87,7 +87,7 @@ fn in_session(session: &[u64; SIZE], buf: &[u8], n: usize, way: Way) -> Result<O
     in_stream(session, packet, way, layout)
 }
 
-// The same on any memory, whose size is asked first. The second `ensures` follows from the first; callers have it ready.
+// The same on any memory, whose size is asked first. The second `ensures` follows from the first; callers have it ready. (Buffer and length as the call lends them.)
 pub fn open(session: &[u64], buf: &[u8], n: usize, way: Way) -> Result<Opened, Shut>
     ensures value { result ≡ open_of way session.now buf.now n }
     ensures opens { Opens way session.now buf.now n result }

@@ -41,7 +41,7 @@ pub fn seal_gcm(context: &Context, packet: &mut [u8], h: Layout) -> [u8; 16]
     tag(key, hash, nonce, packet, r)
 }
 
-// Whether the tag of the packet of n bytes is right; then, and only then, the bytes before it are decrypted. (The buffer is lent whole, as the calls have it.)
+// Whether the tag of the packet of n bytes is right; then, and only then, the bytes before it are decrypted. (n beside the buffer, as in `packet_seal`.)
 pub fn open_gcm(context: &Context, buf: &mut [u8], n: usize, h: Layout) -> bool
     requires { (n ≤ length buf.old) × (judged_of Way.Receiving context.now.policy (tag_length_of Gcm) (take n buf.old) ≡ Ok h) }
     ensures value { result ≡ tag_fits Gcm context.now.keys context.now.policy context.now.ssrc context.now.index (take n buf.old) }

@@ -1,5 +1,6 @@
 // The product with a hash subkey, 32 bits of the other factor at a time, its lowest first: the product so far moves by 32 bits, and what these bits
 // bring is added, which eight entries of the subkey's table make. No entry waits for another, and only the moves for each other.
+// Numbers are taken apart by / and %, as the sum over their bits takes them.
 // Any lists may be lent, so whose multiples they are is a premise of what each function here says.
 ghost use Rattle.std.specs.Prelude.{◌≡◌, ℕ, ◌+◌, ◌*◌, ◌<◌};
 ghost use Rattle.gf128.specs.Product.{sum_of, ◌•◌};

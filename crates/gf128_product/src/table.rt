@@ -5,7 +5,7 @@ ghost use Rattle.gf128_product.specs.Steps.{Multiples, KeyTable};
 use crate::moves::moved;
 use gf128::block::Block;
 
-// The sixteen multiples of v: their high halves, then their low ones.
+// The sixteen multiples of v: their high halves, then their low ones. (Written out: each is another sum.)
 fn multiples(v: Block) -> [u64; 32]
     ensures { Multiples (value_of v) result }
 {
@@ -31,7 +31,7 @@ fn multiples(v: Block) -> [u64; 32]
     ]
 }
 
-// The table of a hash subkey: its multiples, and those of the subkey moved by 4, 8 and so on up to 28 bits.
+// The table of a hash subkey: its multiples, and those of the subkey moved by 4, 8 and so on up to 28 bits. (Written out, as what stands in the table is.)
 pub fn key_table(h: Block) -> [[u64; 32]; 8]
     ensures { KeyTable (value_of h) result }
 {

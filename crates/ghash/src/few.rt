@@ -5,7 +5,7 @@ ghost use Rattle.gf128.specs.Steps.{value_of};
 
 use gf128::block::Block;
 
-// The number that up to eight bytes are.
+// The number that up to eight bytes are. (A loop, since std's `from_be_bytes` takes eight alone.)
 fn number(part: &[u8]) -> u64
     requires { length part.now ≤ 8 }
     ensures { result ≡ from_bytes part.now }

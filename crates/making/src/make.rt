@@ -15,7 +15,7 @@ use setup_words::keys::session_keys;
 use setup_words::words::front_words;
 use suites::suite::Suite;
 
-// A key and a salt of these lengths and a policy, judged.
+// A key and a salt of these lengths and a policy, judged. (The policy is still the number that was passed: which numbers are policies is told here.)
 fn judge(suite: Suite, key: usize, salt: usize, policy: u64) -> Result<(), Refusal>
     ensures { MatchResult result (λ _. make_number suite key salt policy ≡ 0) (λ r. (make_number suite key salt policy ≡ number_of r) × (0 < number_of r)) }
 {

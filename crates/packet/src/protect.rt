@@ -30,7 +30,8 @@ pub fn protect_packet(context: &Context, buf: &mut [u8], n: usize, h: Layout) ->
 }
 
 // The protected packet of n bytes at the start of the buffer, whose layout is h. Where its tag is wrong, nothing is written. Otherwise the bytes before the tag
-// become the packet that is given back. The tag and what follows it stay.
+// become the packet that is given back. The tag and what follows it stay. (n beside the buffer, so that what is said is of the
+// buffer that the call was lent.)
 pub fn unprotect_packet(context: &Context, buf: &mut [u8], n: usize, h: Layout) -> bool
     requires { (n ≤ length buf.old) × (judged_of Way.Receiving context.now.policy (tag_length_of context.now.suite) (take n buf.old) ≡ Ok h) }
     ensures value { result ≡ tag_fits context.now.suite context.now.keys context.now.policy context.now.ssrc context.now.index (take n buf.old) }

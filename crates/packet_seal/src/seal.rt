@@ -38,8 +38,8 @@ pub fn seal(context: &Context, packet: &mut [u8], h: Layout) -> [u8; 20]
     }
 }
 
-// Whether the tag of the packet of n bytes, whose layout is h, is right: it is compared before anything is decrypted. Where it is wrong, nothing is written. (The
-// buffer is lent whole, as the calls have it: what follows the packet stays.)
+// Whether the tag of the packet of n bytes, whose layout is h, is right: it is compared before anything is decrypted. Where it is wrong, nothing is written. (n
+// beside the buffer, so that what is said is of the buffer that the call was lent.)
 pub fn open(context: &Context, buf: &mut [u8], n: usize, h: Layout) -> bool
     requires { (n ≤ length buf.old) × (judged_of Way.Receiving context.now.policy (tag_length_of context.now.suite) (take n buf.old) ≡ Ok h) }
     ensures value { result ≡ tag_fits context.now.suite context.now.keys context.now.policy context.now.ssrc context.now.index (take n buf.old) }

@@ -20,7 +20,7 @@ pub struct Setup<'a> {
 }
 
 impl Setup<'_> {
-    // A session with the ids 1, 3 and 4 and the stream cafebabe. The way is the public call's number: 0 sends, and 1 receives.
+    // A session with the ids 1, 3 and 4 and the stream cafebabe. Policy and way are the public calls' numbers: of the ways 0 sends, and 1 receives.
     fn begin(&self, session: &mut [u64], way: u32) {
         let suite = self.suite as u32;
         make(session, self.key, self.salt, self.policy, &[1, 3, 4], suite);

@@ -9,7 +9,7 @@ use policies::policy::Way;
 use session::layout::{EACH, FRONT, RECORDS, SIZE};
 use session::load::is_made;
 
-// The first word of the record for an SSRC and a way.
+// The first word of the record for an SSRC and a way: 1 or 2 in its upper half, as records lie in lent memory; anything else there is a free place.
 pub fn head_word(ssrc: u32, way: Way) -> u64
     ensures { result ≡ head_word (kind_of way) ssrc }
 {

@@ -14,7 +14,7 @@ use session::load::low;
 // An index this far or more behind the highest is old.
 const WIDTH: u64 = 64;
 
-// Where record i begins.
+// Where record i begins, one of 32.
 pub fn record_place(i: usize) -> usize
     requires { i < 32 }
     ensures { result ≡ record_place i }

@@ -57,7 +57,7 @@ fn judge_guess(ring: &[u64], highest: u64, width: u64, distance: i32) -> Result<
 }
 
 // The answer for a sequence number. `rollover` is the starting rollover of the stream, which counts for its first packet only. Any words have an
-// answer, also those that no list of packets leads to.
+// answer, also those that no list of packets leads to. (Whether it started and its highest index are words of lent memory, so they come as numbers.)
 pub fn receive(track: &[u64], width: u64, rollover: u32, sequence: u16) -> Arrival
     requires { 4 ≤ length track.now }
     ensures { result ≡ arrival_of (blocks_in (drop 2 track.now)) width (state_in track.now) rollover sequence }

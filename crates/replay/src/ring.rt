@@ -14,7 +14,7 @@ fn place_of(number: u64, b: usize) -> usize
     (number as usize) % b
 }
 
-// The bits of a block, none where another block stands in its place.
+// A ring has a block at least, two words. The bits of a block, none where another block stands in its place.
 fn block(ring: &[u64], number: u64) -> u64
     requires { 2 ≤ length ring.now }
     ensures { result ≡ block_of (blocks_in ring.now) (window_in ring.now) number }

@@ -7,7 +7,8 @@ use bits::refusal::Refusal;
 use rtp_elements::element::{Element, found_number, next};
 use rtp_header::header::{header_number, read_header};
 
-// The first element with an id. The walk goes on to the block's end, since an element that runs past it is refused wherever it stands.
+// The first element with an id. The walk goes on to the block's end, since an element that runs past it is refused wherever it stands. It goes by
+// places, as `next` does.
 pub fn locate(block: &[u8], tag: u16, id: u8) -> Result<Element, Refusal>
     ensures value { result ≡ located_of tag block.now id }
     ensures inside { Inside (length block.now) result }

@@ -98,7 +98,7 @@ pub fn next(block: &[u8], tag: u16, from: usize) -> Result<Option<Element>, Refu
     Ok(None)
 }
 
-// No element runs past the block.
+// No element runs past the block. (By places, as `next` goes.)
 pub fn whole(block: &[u8], tag: u16) -> bool
     ensures { result ≡ whole_of tag block.now }
 {

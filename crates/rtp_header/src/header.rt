@@ -7,6 +7,7 @@ use bits::big_endian::read16;
 use bits::refusal::Refusal;
 
 // Where the parts of a packet begin. Without an extension (X = 0) the tag is 0, and block and payload begin after the contributing sources.
+// X and the tag stand side by side, as in the definition `layout_of`, which every rule above cites.
 #[derive(Clone, Copy, Debug, PartialEq, Eq)]
 pub struct Layout {
     pub cc: usize,
@@ -87,7 +88,7 @@ pub fn read_header(packet: &[u8], t: usize) -> Result<Layout, Refusal>
     Ok(plain)
 }
 
-// The number of a reader's answer: 0 where the header was read.
+// The number of a reader's answer: 0 where the header was read. (`found_number` is the same of elements: each of the two answers has a definition of its numbers, which contracts cite.)
 pub fn header_number(header: Result<Layout, Refusal>) -> u8
     ensures { result ≡ header_number header }
 {

@@ -22,6 +22,7 @@ pub fn is_made(first: u64) -> bool
     (MARK..=MARK + 7).contains(&first)
 }
 
+// Two bits of the first word, so the last is any other number.
 fn policy_of(policy: u64) -> Policy
     ensures { result ≡ policy_of policy }
 {

@@ -29,7 +29,7 @@ fn put(words: &mut [u64; FRONT], at: usize, field: &[u64])
     words[at..at + field.len()].copy_from_slice(field);
 }
 
-// Before zeros, so that no place holds a record, they are the session's memory.
+// Before zeros, so that no place holds a record, they are the session's memory. (The policy by its number, which goes into the first word.)
 pub fn front_words(
     suite: Suite,
     policy: u64,

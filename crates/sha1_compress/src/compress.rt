@@ -39,7 +39,7 @@ fn stepped(stage: Stage, s: [u32; 5], w: u32) -> [u32; 5]
     step(s, stage.f(s[1], s[2], s[3]), stage.k(), w)
 }
 
-// The working variables added to the hash value before the block.
+// The working variables added to the hash value before the block, as FIPS 180-4 writes it (6.1.2, step 4).
 fn sum(s: [u32; 5], h: [u32; 5]) -> [u32; 5]
     ensures { result ≡ sum_of s h }
 {

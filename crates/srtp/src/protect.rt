@@ -9,7 +9,8 @@ use session::layout::SIZE;
 use streams::stream::protect_stream;
 
 // The packet of n bytes at the start of the buffer becomes the protected one, whose length is given back; the bytes after it stay, and of the session
-// only the stream's replay state changes. Refusals 1 to 11, and 100 for memory of another size, change nothing.
+// only the stream's replay state changes. Refusals 1 to 11, and 100 for memory of another size, change nothing. (Buffer and length stand
+// side by side, as C lends them.)
 pub fn protect(session: &mut [u64], buf: &mut [u8], n: usize) -> Answer
     ensures { Gives (protect_call session.old buf.old n) result buf.new session.new }
 {

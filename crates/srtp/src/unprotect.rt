@@ -9,7 +9,8 @@ use session::layout::SIZE;
 use streams::stream::unprotect_stream;
 
 // The protected packet of n bytes at the start of the buffer becomes the packet that is given back, whose length is n less the suite's tag; the tag and the bytes after it
-// stay, and of the session only the stream's replay state changes. Refusals 1 to 7, 9, 11 to 14, and 100 for memory of another size, change nothing.
+// stay, and of the session only the stream's replay state changes. Refusals 1 to 7, 9, 11 to 14, and 100 for memory of another size, change nothing. (Buffer and length stand
+// side by side, as C lends them.)
 pub fn unprotect(session: &mut [u64], buf: &mut [u8], n: usize) -> Answer
     ensures { Gives (unprotect_call session.old buf.old n) result buf.new session.new }
 {

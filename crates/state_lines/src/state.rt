@@ -21,7 +21,7 @@ struct Record<'a> {
 }
 
 impl<'a> Record<'a> {
-    // `None` for a free place.
+    // `None` for a free place. (The numbers are those that `records::places::head_word` writes.)
     fn in_words(words: &'a [u64]) -> Option<Record<'a>>
         requires { length words.now ≡ each }
     {

@@ -39,7 +39,7 @@ fn context_of(session: &[u64; SIZE], packet: &[u8], index: u64) -> Context
     }
 }
 
-// The packet protected, and its index the last one sent; its new length.
+// The packet protected, and its index the last one sent; its new length. (Buffer and length as the call lends them.)
 pub fn protect_stream(session: &mut [u64; SIZE], opened: Opened, buf: &mut [u8], n: usize) -> usize
     requires { Ready Sending session.old buf.old n opened.place opened.index opened.layout }
     ensures { Gives (left_by session.old opened.place buf.old (effect_at Sending session.old opened.place buf.old n)) (answer_of (Ok result)) buf.new session.new }

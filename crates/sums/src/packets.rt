@@ -9,8 +9,8 @@ use srtp::protect::protect;
 use srtp::unprotect::unprotect;
 use std::io;
 
-// A session with the streams that the packets have: SSRC 0, and that of RFC 9335's packets. Keys of zeros. The way is the public call's number: 0 sends, and
-// 1 receives.
+// A session with the streams that the packets have: SSRC 0, and that of RFC 9335's packets. Keys of zeros. Policy and way are the public calls' numbers:
+// of the ways 0 sends, and 1 receives.
 fn session(policy: u64, way: u32) -> [u64; SIZE] {
     let mut session = [0; SIZE];
     let key = [0; 16];
