@@ -9,7 +9,7 @@ use crate::cipher::encrypt;
 use aes_begin::begin::{Begun, begin};
 use aes_columns::column::add_round_key;
 use aes_keys::key_schedule::expand;
-use aes_tables::tables::Tables;
+use aes_tables::tables::{SboxEntries, Tables};
 
 // A key, with its round keys and the tables that the cipher reads. Both are lent: the tables are written to the stack anew wherever they are made, and no proof is
 // made yet of a struct that holds the round keys itself, arrays of arrays of bytes.
@@ -53,10 +53,10 @@ fn bytes(s: [[u8; 4]; 4]) -> [u8; 16]
 }
 
 // The round keys of a key, to be lent.
-pub fn round_keys(tables: Tables<'_>, key: [u8; 16]) -> [[[u8; 4]; 4]; 11]
+pub fn round_keys(sbox: SboxEntries<'_>, key: [u8; 16]) -> [[[u8; 4]; 4]; 11]
     ensures { result ≡ round_keys_of (state_of key) }
 {
-    expand(tables, state(key))
+    expand(sbox, state(key))
 }
 
 // The blocks of a key from a starting block on, whose last two bytes do not matter.
@@ -65,7 +65,7 @@ pub fn start_at<'a>(cipher: Cipher<'a>, block: [u8; 16]) -> Blocks<'a>
 {
     let keys = cipher.keys;
     let s = add_round_key(state(block), keys[0]);
-    let begun = begin(cipher.tables, s, keys[1], keys[2]);
+    let begun = begin(cipher.tables.round, s, keys[1], keys[2]);
     Blocks {
         cipher,
         block,

@@ -45,7 +45,7 @@ pub fn xor_portion(
     ensures { buf.new ≡ xor_pad (portion_pad portion.first portion.stop portion.rest (keystream_of key salt ssrc index)) buf.old }
 {
     prove!(portion.stop <= portion.rest);
-    let keys = round_keys(tables, key);
+    let keys = round_keys(tables.sbox, key);
     let cipher = Cipher {
         tables,
         keys: &keys,

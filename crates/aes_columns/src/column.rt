@@ -6,33 +6,33 @@ ghost use Rattle.aes_tables.specs.Cipher.{sbox_of, mix_column, add_round_key};
 ghost use Rattle.aes_tables.specs.Tables.{unpack_of, row_of};
 
 use aes_keys::word;
-use aes_tables::tables::Tables;
+use aes_tables::tables::RoundEntries;
 
 // What x brings in row R. Its four bytes stand in its entry from byte 0, 3, 2 or 1 on.
-pub fn row<const R: usize>(tables: Tables<'_>, x: u8) -> u32
+pub fn row<const R: usize>(table: RoundEntries<'_>, x: u8) -> u32
     requires { R < 4 }
     ensures { unpack_of result ≡ row_of R (sbox_of x) }
 {
     let at = 8 * (x as usize) + (4 - R) % 4;
     word::pack([
-        tables.round[at],
-        tables.round[at + 1],
-        tables.round[at + 2],
-        tables.round[at + 3],
+        table.bytes[at],
+        table.bytes[at + 1],
+        table.bytes[at + 2],
+        table.bytes[at + 3],
     ])
 }
 
 // The whole column: SubBytes, MixColumns and AddRoundKey, for the four bytes that ShiftRows brings together. The order of the sum
 // is the fastest of those that were tried.
-pub fn round_column(tables: Tables<'_>, a: u8, b: u8, c: u8, d: u8, k: [u8; 4]) -> [u8; 4]
+pub fn round_column(table: RoundEntries<'_>, a: u8, b: u8, c: u8, d: u8, k: [u8; 4]) -> [u8; 4]
     ensures { result ≡ xor_list (mix_column (sbox_of a) (sbox_of b) (sbox_of c) (sbox_of d)) k }
 {
     word::unpack(
-        row::<0>(tables, a)
+        row::<0>(table, a)
             ^ word::pack(k)
-            ^ row::<3>(tables, d)
-            ^ row::<1>(tables, b)
-            ^ row::<2>(tables, c),
+            ^ row::<3>(table, d)
+            ^ row::<1>(table, b)
+            ^ row::<2>(table, c),
     )
 }
 

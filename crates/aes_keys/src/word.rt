@@ -4,7 +4,7 @@ ghost use Rattle.bits.specs.Xor.{xor_list};
 ghost use Rattle.aes_tables.specs.Keys.{sub_word};
 ghost use Rattle.aes_tables.specs.Tables.{unpack_of};
 
-use aes_tables::tables::Tables;
+use aes_tables::tables::SboxEntries;
 
 pub fn xor(a: [u8; 4], b: [u8; 4]) -> [u8; 4]
     ensures { result ≡ xor_list a b }
@@ -13,10 +13,10 @@ pub fn xor(a: [u8; 4], b: [u8; 4]) -> [u8; 4]
 }
 
 // Each byte through the S-box.
-pub fn substitute(tables: Tables<'_>, a: [u8; 4]) -> [u8; 4]
+pub fn substitute(sbox: SboxEntries<'_>, a: [u8; 4]) -> [u8; 4]
     ensures { result ≡ sub_word a }
 {
-    a.map(|x| tables.sbox[x as usize])
+    a.map(|x| sbox.bytes[x as usize])
 }
 
 // The word as one number, its first byte the lowest, which is how the round table has its entries.

@@ -5,42 +5,42 @@ ghost use Rattle.aes_shared.specs.Shared.{FirstColumns, SecondColumns};
 
 use aes_columns::column::{round_column, row};
 use aes_keys::word;
-use aes_tables::tables::Tables;
+use aes_tables::tables::RoundEntries;
 
 // Columns 0 and 1 after the first round.
-pub fn first_columns(tables: Tables<'_>, s: [[u8; 4]; 4], k: [[u8; 4]; 4]) -> [u32; 2]
+pub fn first_columns(table: RoundEntries<'_>, s: [[u8; 4]; 4], k: [[u8; 4]; 4]) -> [u32; 2]
     ensures { FirstColumns s k result }
 {
     let [a, b, c, _] = s;
-    let p = row::<0>(tables, a[0])
-        ^ row::<1>(tables, b[1])
-        ^ row::<2>(tables, c[2])
+    let p = row::<0>(table, a[0])
+        ^ row::<1>(table, b[1])
+        ^ row::<2>(table, c[2])
         ^ word::pack(k[0]);
-    let q = row::<0>(tables, b[0])
-        ^ row::<1>(tables, c[1])
-        ^ row::<3>(tables, a[3])
+    let q = row::<0>(table, b[0])
+        ^ row::<1>(table, c[1])
+        ^ row::<3>(table, a[3])
         ^ word::pack(k[1]);
     [p, q]
 }
 
 // Columns 2 and 3 after the first round, which the last two bytes do not reach.
-pub fn whole_columns(tables: Tables<'_>, s: [[u8; 4]; 4], k: [[u8; 4]; 4]) -> [[u8; 4]; 2]
+pub fn whole_columns(table: RoundEntries<'_>, s: [[u8; 4]; 4], k: [[u8; 4]; 4]) -> [[u8; 4]; 2]
     ensures { result ≡ get_or (round_of s k) 2 [] ∷ get_or (round_of s k) 3 [] ∷ [] }
 {
     let [a, b, c, d] = s;
     [
-        round_column(tables, c[0], d[1], a[2], b[3], k[2]),
-        round_column(tables, d[0], a[1], b[2], c[3], k[3]),
+        round_column(table, c[0], d[1], a[2], b[3], k[2]),
+        round_column(table, d[0], a[1], b[2], c[3], k[3]),
     ]
 }
 
 // The columns after the second round, from columns 2 and 3 before it.
-pub fn second_columns(tables: Tables<'_>, u: [u8; 4], v: [u8; 4], k: [[u8; 4]; 4]) -> [u32; 4]
+pub fn second_columns(table: RoundEntries<'_>, u: [u8; 4], v: [u8; 4], k: [[u8; 4]; 4]) -> [u32; 4]
     ensures { SecondColumns u v k result }
 {
-    let e = row::<2>(tables, u[2]) ^ row::<3>(tables, v[3]) ^ word::pack(k[0]);
-    let f = row::<1>(tables, u[1]) ^ row::<2>(tables, v[2]) ^ word::pack(k[1]);
-    let g = row::<0>(tables, u[0]) ^ row::<1>(tables, v[1]) ^ word::pack(k[2]);
-    let h = row::<0>(tables, v[0]) ^ row::<3>(tables, u[3]) ^ word::pack(k[3]);
+    let e = row::<2>(table, u[2]) ^ row::<3>(table, v[3]) ^ word::pack(k[0]);
+    let f = row::<1>(table, u[1]) ^ row::<2>(table, v[2]) ^ word::pack(k[1]);
+    let g = row::<0>(table, u[0]) ^ row::<1>(table, v[1]) ^ word::pack(k[2]);
+    let h = row::<0>(table, v[0]) ^ row::<3>(table, u[3]) ^ word::pack(k[3]);
     [e, f, g, h]
 }

@@ -22,14 +22,26 @@ const SBOX: [u8; 256] = *b"\
     \xe1\xf8\x98\x11\x69\xd9\x8e\x94\x9b\x1e\x87\xe9\xce\x55\x28\xdf\
     \x8c\xa1\x89\x0d\xbf\xe6\x42\x68\x41\x99\x2d\x0f\xb0\x54\xbb\x16";
 
-// The S-box, which the last round and the key schedule read, and the table of the other rounds; both lent. (Two references: a value that held both arrays would be cleared as a whole before
-// they are written, 2,200 instructions a packet.)
+// The S-box, lent, which the last round and the key schedule read. (A reference, as the other table is: a value that held the arrays would be cleared as a whole before they are
+// written, 2,200 instructions a packet.)
+#[derive(Clone, Copy)]
+pub struct SboxEntries<'a> {
+    pub bytes: &'a [u8; 256],
+    pub ghost rule: { SboxTable bytes.now },
+}
+
+// The table of the other rounds, lent.
+#[derive(Clone, Copy)]
+pub struct RoundEntries<'a> {
+    pub bytes: &'a [u8; 2048],
+    pub ghost rule: { RoundTable bytes.now },
+}
+
+// Both, for whoever encrypts a block.
 #[derive(Clone, Copy)]
 pub struct Tables<'a> {
-    pub sbox: &'a [u8; 256],
-    pub round: &'a [u8; 2048],
-    pub ghost sbox_rule: { SboxTable sbox.now },
-    pub ghost round_rule: { RoundTable round.now },
+    pub sbox: SboxEntries<'a>,
+    pub round: RoundEntries<'a>,
 }
 
 pub fn sbox() -> [u8; 256]

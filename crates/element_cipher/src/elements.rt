@@ -75,7 +75,7 @@ pub fn crypt_elements(
     requires block_value { (whole_of tag block.old ≡ true) × (length block.old ≤ keystream_end) }
     ensures { block.new ≡ masked_of (listed_in listed.now) tag (keystream_of key salt ssrc index) block.old }
 {
-    let keys = round_keys(tables, key);
+    let keys = round_keys(tables.sbox, key);
     let cipher = Cipher {
         tables,
         keys: &keys,

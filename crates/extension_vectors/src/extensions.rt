@@ -2,7 +2,7 @@
 ghost use Rattle.std.specs.Prelude.{◌≡◌, length};
 
 use aes_cm::derivation::derive;
-use aes_tables::tables::{self, Tables};
+use aes_tables::tables::{self, RoundEntries, SboxEntries, Tables};
 use element_cipher::elements::crypt_elements;
 use keystream::stretch::stretch;
 use lines::arrays::padded;
@@ -47,8 +47,8 @@ pub fn masked(rt: &impl Print, key: &[u8], salt: &[u8], block: &mut [u8]) -> io:
     let sbox = tables::sbox();
     let round = tables::round_table();
     let tables = Tables {
-        sbox: &sbox,
-        round: &round,
+        sbox: SboxEntries { bytes: &sbox },
+        round: RoundEntries { bytes: &round },
     };
     crypt_elements(
         tables,

@@ -9,7 +9,7 @@ ghost use Rattle.gcm.specs.Steps.{base_of, sealed_of};
 use crate::counter::{TEXT, start};
 use aes::blocks::{Cipher, round_keys};
 use aes_cm::portion::xor_from;
-use aes_tables::tables::{self, Tables};
+use aes_tables::tables::{self, RoundEntries, SboxEntries, Tables};
 use bits::portion::Portion;
 
 // The keystream of the counter blocks, from any byte `from` of it on. The cipher's tables lie in this function's own frame, and are gone when it returns.
@@ -20,10 +20,10 @@ pub fn crypt_from(key: [u8; 16], iv: [u8; 12], from: usize, buf: &mut [u8], port
     let sbox = tables::sbox();
     let round = tables::round_table();
     let tables = Tables {
-        sbox: &sbox,
-        round: &round,
+        sbox: SboxEntries { bytes: &sbox },
+        round: RoundEntries { bytes: &round },
     };
-    let keys = round_keys(tables, key);
+    let keys = round_keys(tables.sbox, key);
     let cipher = Cipher {
         tables,
         keys: &keys,

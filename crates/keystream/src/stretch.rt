@@ -8,7 +8,7 @@ use aes::blocks::{Cipher, round_keys};
 use aes_counter::start::packet_start;
 use aes_keystream::keystream::xor_stretch;
 use aes_keystream::seek::seek;
-use aes_tables::tables::{self, Tables};
+use aes_tables::tables::{self, RoundEntries, SboxEntries, Tables};
 use bits::refusal::Refusal;
 
 // The bytes of keystream that RFC 3711 allows one packet index.
@@ -37,10 +37,10 @@ fn stretch_within(
     let sbox = tables::sbox();
     let round = tables::round_table();
     let tables = Tables {
-        sbox: &sbox,
-        round: &round,
+        sbox: SboxEntries { bytes: &sbox },
+        round: RoundEntries { bytes: &round },
     };
-    let keys = round_keys(tables, key);
+    let keys = round_keys(tables.sbox, key);
     let cipher = Cipher {
         tables,
         keys: &keys,

@@ -8,7 +8,7 @@ ghost use Rattle.policies.specs.Judging.{elements_fit};
 
 use crate::context::Context;
 use aes_cm::portion::xor_portion;
-use aes_tables::tables::{self, Tables};
+use aes_tables::tables::{self, RoundEntries, SboxEntries, Tables};
 use bits::portion::Portion;
 use element_cipher::elements::crypt_elements;
 use rtp_header::header::Layout;
@@ -63,8 +63,8 @@ pub fn crypt(context: &Context, packet: &mut [u8], h: Layout)
     let sbox = tables::sbox();
     let round = tables::round_table();
     let tables = Tables {
-        sbox: &sbox,
-        round: &round,
+        sbox: SboxEntries { bytes: &sbox },
+        round: RoundEntries { bytes: &round },
     };
     let keys = &context.keys;
     let ssrc = context.ssrc;

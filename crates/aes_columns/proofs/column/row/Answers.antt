@@ -4,4 +4,4 @@ use Rattle.aes_tables.proofs.RoundTable.{read}
 use Rattle.aes_columns.proofs.column.row.Goals as goal
 
 pub returns : goal.returns
-returns g c = c.pack.ensures ∙ read c.args.tables.round.now c.args.tables.round_rule c.args.x c.ranges.x.fits g.row.R c.requires
+returns g c = c.pack.ensures ∙ read c.args.table.bytes.now c.args.table.rule c.args.x c.ranges.x.fits g.row.R c.requires
