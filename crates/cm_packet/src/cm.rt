@@ -36,7 +36,15 @@ pub fn seal_cm(context: &Context, packet: &mut [u8], h: Layout) -> [u8; 20]
     ensures packet_after { packet.new ≡ cipher_of CmHmac context.now.keys context.now.policy (listed_in context.now.ids) context.now.ssrc context.now.index packet.old }
     ensures result_value { take (tag_length_of CmHmac) result ≡ tag_of CmHmac context.now.keys context.now.policy context.now.ssrc context.now.index packet.new }
 {
-    crypt(context, packet, h);
+    crypt(
+        &context.keys,
+        context.policy,
+        &context.ids,
+        context.ssrc,
+        context.index,
+        packet,
+        h,
+    );
     code(context, packet)
 }
 
@@ -51,6 +59,14 @@ pub fn open_cm(context: &Context, buf: &mut [u8], n: usize, h: Layout) -> bool
     if !same(&c[0..10], &buf[m..n]) {
         return false;
     }
-    crypt(context, &mut buf[0..m], h);
+    crypt(
+        &context.keys,
+        context.policy,
+        &context.ids,
+        context.ssrc,
+        context.index,
+        &mut buf[0..m],
+        h,
+    );
     true
 }

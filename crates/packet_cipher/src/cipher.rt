@@ -6,11 +6,12 @@ ghost use Rattle.rtp_elements.specs.Mask.{listed_in};
 ghost use Rattle.packet_cipher.specs.Cipher.{portion_of, cipher_of};
 ghost use Rattle.policies.specs.Judging.{elements_fit};
 
-use crate::context::Context;
+use crate::keys::Keys;
 use aes_cm::portion::xor_portion;
 use aes_tables::tables::{self, RoundEntries, SboxEntries, Tables};
 use bits::portion::Portion;
 use element_cipher::elements::crypt_elements;
+use policies::policy::Policy;
 use rtp_header::header::Layout;
 
 // The places of a portion as any layout has them, in order or not: of layouts that no packet has, too.
@@ -55,10 +56,19 @@ pub fn portion(cryptex: bool, h: Layout) -> Portion
 
 // A packet in the form that it has on the wire, whose layout is h. A policy uses the mask or Cryptex, never both: under the mask the packet's own keystream
 // leaves the block of the header extension as it is, and the listed elements have a keystream of their own. Both read the same tables.
-pub fn crypt(context: &Context, packet: &mut [u8], h: Layout)
+// The parameters, and no Context with its bound on the index: the definition has an answer for any index.
+pub fn crypt(
+    keys: &Keys,
+    policy: Policy,
+    ids: &[u64; 4],
+    ssrc: u32,
+    index: u64,
+    packet: &mut [u8],
+    h: Layout,
+)
     requires h_value { (h ≡ layout_of packet.old) × ((h.payload ≤ length packet.old) × (length packet.old ≤ 2048)) }
-    requires packet_value { elements_fit context.now.policy h packet.old ≡ true }
-    ensures { packet.new ≡ cipher_of CmHmac context.now.keys context.now.policy (listed_in context.now.ids) context.now.ssrc context.now.index packet.old }
+    requires packet_value { elements_fit policy h packet.old ≡ true }
+    ensures { packet.new ≡ cipher_of CmHmac keys.now policy (listed_in ids.now) ssrc index packet.old }
 {
     let sbox = tables::sbox();
     let round = tables::round_table();
@@ -66,12 +76,9 @@ pub fn crypt(context: &Context, packet: &mut [u8], h: Layout)
         sbox: SboxEntries { bytes: &sbox },
         round: RoundEntries { bytes: &round },
     };
-    let keys = &context.keys;
-    let ssrc = context.ssrc;
-    let index = context.index;
-    let r = portion(context.policy.is_cryptex(h), h);
+    let r = portion(policy.is_cryptex(h), h);
     xor_portion(tables, keys.cipher, keys.salt, ssrc, index, packet, r);
-    if context.policy.uses_mask() {
+    if policy.uses_mask() {
         crypt_elements(
             tables,
             keys.header_cipher,
@@ -80,7 +87,7 @@ pub fn crypt(context: &Context, packet: &mut [u8], h: Layout)
             index,
             &mut packet[h.block..h.payload],
             h.tag,
-            &context.ids,
+            ids,
         );
     }
 }
