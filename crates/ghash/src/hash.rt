@@ -15,7 +15,8 @@ use gf128_product::product::product;
 
 // Before the first byte.
 pub fn start() -> Hash
-    ensures { (h : ℕ) → Fed h [] result }
+    ensures begun_value { result.begun ≡ 0 }
+    ensures by_index { (h : ℕ) → Fed h [] result }
 {
     Hash {
         value: Block::ZERO,
@@ -84,7 +85,8 @@ fn room(s: Hash, left: usize) -> usize
 
 // The bytes of a part: those that the block begun still takes, whole blocks, and the rest.
 pub fn feed(table: &[[u64; 32]; 8], s: Hash, part: &[u8]) -> Hash
-    ensures { (h : ℕ) (l : List ℕ) → KeyTable h table.now → Fed h l s → Fed h (l ++ part.now) result }
+    ensures begun_value { result.begun ≡ (s.begun + length part.now) % 16 }
+    ensures by_index { (h : ℕ) (l : List ℕ) → KeyTable h table.now → Fed h l s → Fed h (l ++ part.now) result }
 {
     let n = room(s, part.len());
     let m = n + (part.len() - n) / 16 * 16;
@@ -95,7 +97,8 @@ pub fn feed(table: &[[u64; 32]; 8], s: Hash, part: &[u8]) -> Hash
 
 // Zeros up to the end of the block begun.
 pub fn pad(table: &[[u64; 32]; 8], s: Hash) -> Hash
-    ensures { (h : ℕ) (l : List ℕ) → KeyTable h table.now → Fed h l s → Fed h (padded_of l) result }
+    ensures begun_value { result.begun ≡ 0 }
+    ensures by_index { (h : ℕ) (l : List ℕ) → KeyTable h table.now → Fed h l s → Fed h (padded_of l) result }
 {
     let whole = s.begun == 0;
     if whole {

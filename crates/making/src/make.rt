@@ -44,7 +44,8 @@ pub fn make(
     if session.len() != SIZE {
         return u32::from(Border::Memory);
     }
-    if 1 < suite {
+    let unknown = 1 < suite;
+    if unknown {
         return u32::from(Border::Suite);
     }
     session.fill(0);

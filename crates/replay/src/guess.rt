@@ -8,9 +8,11 @@ pub(crate) fn guess(highest: u64, sequence: u16) -> i32
 {
     let s = (highest % 65536) as i32;
     let ahead = i32::from(sequence) - s;
-    if 32768 < ahead {
+    let back = 32768 < ahead;
+    let on = ahead < -32768;
+    if back {
         ahead - 65536
-    } else if ahead < -32768 {
+    } else if on {
         ahead + 65536
     } else {
         ahead

@@ -80,3 +80,9 @@ module _ (tag : ℕ) (block : List ℕ) (id : ℕ) where
   pub sought-past : (first : Option Element) (i : ℕ) (r : Refusal) → Sought first i → next_of tag block i ≡ Err r → Err r ≡ located_of tag block id
   unfolding ahead
   sought-past first i r w q = rw (next-refusal tag block i r q) (sym (rw (next_past tag block i r q)) ∙ w.found)
+
+  -- the first match is the answer, where the rest of the block is whole
+  pub sought-match : (e : Element) (i : ℕ) (w : Bool) → Sought (Some e) i → w ≡ whole_from (two_byte tag) (start_of tag) (drop i block)
+      → pick w (Ok e) (Err refusal.Element) ≡ located_of tag block id
+  unfolding ahead
+  sought-match e i w s r = rw r s.found

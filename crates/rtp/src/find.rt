@@ -4,24 +4,31 @@ ghost use Rattle.rtp.specs.Finding.{located_of, find_of, HandedBack};
 ghost use Rattle.rtp.specs.Steps.{Inside};
 
 use bits::refusal::Refusal;
-use rtp_elements::element::{Element, found_number, next};
+use rtp_elements::element::{Element, found_number, next, whole_after};
 use rtp_header::header::{header_number, read_header};
 
-// The first element with an id. The walk goes on to the block's end, since an element that runs past it is refused wherever it stands. It goes by
-// places, as `next` does.
+// The first element with an id. Where it was found, the rest of the block is walked for its own sake, since an element that runs past the block is refused
+// wherever it stands: one walk that also keeps the first match takes half as long again. The walk goes by places, as `next` does.
 pub fn locate(block: &[u8], tag: u16, id: u8) -> Result<Element, Refusal>
     ensures value { result ≡ located_of tag block.now id }
     ensures inside { Inside (length block.now) result }
 {
-    let mut first = None;
     let mut i: usize = 0;
-    while let Some(element) = next(block, tag, i)? {
-        if first.is_none() && element.id == id {
-            first = Some(element);
-        }
+    while i < block.len() {
+        let Some(element) = next(block, tag, i)? else {
+            break;
+        };
         i = element.begin + element.length;
+        let matches = element.id == id;
+        if matches {
+            return if whole_after(block, tag, i) {
+                Ok(element)
+            } else {
+                Err(Refusal::Element)
+            };
+        }
     }
-    first.ok_or(Refusal::Absent)
+    Err(Refusal::Absent)
 }
 
 // The data of the first element with an id, in a plain packet. A refusal hands back an empty part, as document 01 wants it, so the answer goes beside the part and

@@ -1,6 +1,6 @@
 // The elements of a header extension's block, one after another: the one walk behind everything that reads them.
-ghost use Rattle.std.specs.Prelude.{◌≡◌, true, false, [], ◌∷◌, ◌≤◌, ◌<◌, length, get_or};
-ghost use Rattle.rtp_elements.specs.Elements.{Length, Between, two_byte, has_elements, whole_of, begun_of};
+ghost use Rattle.std.specs.Prelude.{◌≡◌, true, false, [], ◌∷◌, ◌≤◌, ◌<◌, length, get_or, drop};
+ghost use Rattle.rtp_elements.specs.Elements.{Length, Between, two_byte, has_elements, start_of, whole_from, whole_of, begun_of};
 ghost use Rattle.rtp_elements.specs.Numbers.{found_number};
 ghost use Rattle.rtp_elements.specs.Next.{next_by, next_of};
 
@@ -98,11 +98,11 @@ pub fn next(block: &[u8], tag: u16, from: usize) -> Result<Option<Element>, Refu
     Ok(None)
 }
 
-// No element runs past the block. (By places, as `next` goes.)
-pub fn whole(block: &[u8], tag: u16) -> bool
-    ensures { result ≡ whole_of tag block.now }
+// No element runs past the block, from a place on, which is the block's start or the end of an element. (By places, as `next` goes.)
+pub fn whole_after(block: &[u8], tag: u16, from: usize) -> bool
+    ensures { result ≡ whole_from (two_byte tag) (start_of tag) (drop from block.now) }
 {
-    let mut i: usize = 0;
+    let mut i = from;
     loop {
         match next(block, tag, i) {
             Ok(Some(element)) => i = element.begin + element.length,
@@ -110,6 +110,13 @@ pub fn whole(block: &[u8], tag: u16) -> bool
             Err(_) => return false,
         }
     }
+}
+
+// No element runs past the block.
+pub fn whole(block: &[u8], tag: u16) -> bool
+    ensures { result ≡ whole_of tag block.now }
+{
+    whole_after(block, tag, 0)
 }
 
 // Document 01's number for what was found.

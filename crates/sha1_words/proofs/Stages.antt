@@ -26,7 +26,7 @@ module _ {A : Type 0} (t : ℕ) (a b c d : A) where
       let h : t < 60 = omega arith in
       simp (le-ltb _ _ f, le-ltb _ _ g, lt-ltb _ _ h)
 
-  pub stage3 : t / 20 ≡ 3 → by_stage t a b c d ≡ d
+  pub stage3 : 3 ≤ t / 20 → by_stage t a b c d ≡ d
   stage3 e =
       let f : 20 ≤ t = omega arith in
       let g : 40 ≤ t = omega arith in

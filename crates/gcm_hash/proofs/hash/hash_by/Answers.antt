@@ -11,5 +11,5 @@ returns c =
     let y = (padded_of x ++ g.c.now) ++ g.d.now in
     λ h q.
     c.to_be_bytes.ensures
-    ∙ c.finish-last.ensures h (padded_of y) q (c.feed_two-u.ensures h (padded_of x) q (c.feed_two-t.ensures h [] q (c.start-s.ensures h))) (padded-whole y)
+    ∙ c.finish-last.ensures h (padded_of y) q (c.feed_two-u.ensures h (padded_of x) q (c.feed_two-t.ensures h [] q (c.start-s.ensures.by_index h))) (padded-whole y)
     ∙ fed-is-hashed g.a.now g.b.now g.c.now g.d.now h

@@ -65,11 +65,15 @@ returns c =
     let t = c.add_few-t in
     let u = c.add_blocks-u in
     let e : c.add_few.result.begun ≡ (g.s.begun + length l) % 16 = omega (arith, within.0, t.ensures.begun_value, u.ensures.begun_value, c.add_few.ensures.begun_value) in
-    λ h k q f.
-    fed-more h k l g.s c.add_few.result f (are-bytes l (λ i. (c.type_inv.part i).fits)) e
-    (fed-parts h (value_of g.s.value) g.s.begun (take n l) (take (m - n) (drop n l)) (take (length l - m) (drop m l)) l
-    (value_of t.result.value) (value_of u.result.value) (value_of c.add_few.result.value) t.result.begun u.result.begun
-    (three-parts l n m (omega arith) (omega (arith, within.0)))
-    (omega (arith, t.ensures.begun_value)) (omega (arith, u.ensures.begun_value)) (t.ensures.by_index h q)
-    (u.ensures.by_index h q (λ z. let y = c.room-n.ensures.result_value (omega arith) in omega (arith, t.ensures.begun_value)))
-    (c.add_few.ensures.by_index h q))
+    record {
+      begun_value = e;
+      by_index =
+          λ h k q f.
+          fed-more h k l g.s c.add_few.result f (are-bytes l (λ i. (c.type_inv.part i).fits)) e
+          (fed-parts h (value_of g.s.value) g.s.begun (take n l) (take (m - n) (drop n l)) (take (length l - m) (drop m l)) l
+          (value_of t.result.value) (value_of u.result.value) (value_of c.add_few.result.value) t.result.begun u.result.begun
+          (three-parts l n m (omega arith) (omega (arith, within.0)))
+          (omega (arith, t.ensures.begun_value)) (omega (arith, u.ensures.begun_value)) (t.ensures.by_index h q)
+          (u.ensures.by_index h q (λ z. let y = c.room-n.ensures.result_value (omega arith) in omega (arith, t.ensures.begun_value)))
+          (c.add_few.ensures.by_index h q));
+    }

@@ -5,4 +5,4 @@ use Rattle.ghash.proofs.hash.start.Goals as goal
 
 pub returns : goal.returns
 unfolding feed_of
-returns c = λ h. record { value = refl; begun = refl; bytes = tt }
+returns c = record { begun_value = refl; by_index = λ h. record { value = refl; begun = refl; bytes = tt } }

@@ -17,15 +17,15 @@ pub returns-then-session-ne-SIZE-clause-leaves : goal.returns-then-session-ne-SI
 returns-then-session-ne-SIZE-clause-leaves c =
     let a = c.args in rw c.from.ensures (make-memory a.session.now a.key.now a.salt.now a.policy a.ids.now a.suite c.if-session-ne-SIZE.true)
 
-pub returns-then-suite-gt1-clause-leaves : goal.returns-then-suite-gt1-clause-leaves
-returns-then-suite-gt1-clause-leaves c =
-    let a = c.args in rw c.from-then-suite-gt1.ensures (make-suite a.session.now a.key.now a.salt.now a.policy a.ids.now a.suite c.if-session-ne-SIZE.false c.if-suite-gt1.true)
+pub returns-then-unknown-clause-leaves : goal.returns-then-unknown-clause-leaves
+returns-then-unknown-clause-leaves c =
+    let a = c.args in rw c.from-then-unknown.ensures (make-suite a.session.now a.key.now a.salt.now a.policy a.ids.now a.suite c.if-session-ne-SIZE.false c.if-unknown.true)
 
 pub returns-in-Err : goal.returns-in-Err
 returns-in-Err c =
     let a = c.args in
     let i : c.from-in-Err.result ≡ number_of c.in-Err.refusal = search rules in
-    let w = make-refused-in a.session.now a.key.now a.salt.now a.policy a.ids.now a.suite c.if-session-ne-SIZE.false (omega (arith, c.if-suite-gt1.false)) _ (c.from-suite.ensures ∙ ap suite_of c.from-2.ensures) c.from-in-Err.result
+    let w = make-refused-in a.session.now a.key.now a.salt.now a.policy a.ids.now a.suite c.if-session-ne-SIZE.false (omega (arith, c.if-unknown.false)) _ (c.from-suite.ensures ∙ ap suite_of c.from-2.ensures) c.from-in-Err.result
     (i ∙ sym c.in-Err.ensures.0) (λ e. absurd (omega (arith, i, e, c.in-Err.ensures.1))) _ (c.fill.ensures.after (λ y e. e)) in
     record { leaves = w.0; session_after = λ e h. w.1 }
 
@@ -33,7 +33,7 @@ pub returns : goal.returns
 returns c =
     let a = c.args in
     let l : length c.front_words-front.result ≡ front = search rules in
-    let w = make-made-in a.session.now a.key.now a.salt.now a.policy a.ids.now a.suite c.if-session-ne-SIZE.false (omega (arith, c.if-suite-gt1.false)) _ (c.from-suite.ensures ∙ ap suite_of c.from-2.ensures) 0 (sym c.in_default.ensures) refl c.front_words-front.result c.fill.new.self _
+    let w = make-made-in a.session.now a.key.now a.salt.now a.policy a.ids.now a.suite c.if-session-ne-SIZE.false (omega (arith, c.if-unknown.false)) _ (c.from-suite.ensures ∙ ap suite_of c.from-2.ensures) 0 (sym c.in_default.ensures) refl c.front_words-front.result c.fill.new.self _
     c.front_words-front.ensures c.array-key.ensures c.filled-salt.ensures c.flags.ensures c.session_keys-keys.ensures
     (came-back 0 front c.fill.new.self c.copy_from_slice.new.self (omega (arith, l, ap length c.copy_from_slice.ensures.after)) ∙ ap (λ (r : List ℕ). with_part 0 r c.fill.new.self) c.copy_from_slice.ensures.after)
     (c.fill.ensures.after (λ y e. e) ∙ ap (λ (k : ℕ). replicate k 0) c.if-session-ne-SIZE.false) in

@@ -4,12 +4,12 @@ use Rattle.std.proofs.lemmas.Int.{ints}
 use Rattle.replay.proofs.Guesses.{one_back, one_on, same_rollover}
 use Rattle.replay.proofs.guess.guess.Goals as goal
 
-pub returns-then-ahead-gt32768 : goal.returns-then-ahead-gt32768
-returns-then-ahead-gt32768 c = rw (one_back c.args.highest c.args.sequence (omega arith) (omega (arith, ints))) (omega (arith, ints))
+pub returns-then-back : goal.returns-then-back
+returns-then-back c = rw (one_back c.args.highest c.args.sequence (omega arith) (omega (arith, ints))) (omega (arith, ints))
 
-pub returns-then-ahead-ltminus32768 : goal.returns-then-ahead-ltminus32768
-returns-then-ahead-ltminus32768 c = rw (one_on c.args.highest c.args.sequence (omega arith) (omega (arith, ints))) (omega (arith, ints))
+pub returns-then-on : goal.returns-then-on
+returns-then-on c = rw (one_on c.args.highest c.args.sequence (omega arith) (omega (arith, ints))) (omega (arith, ints))
 
-pub returns-else-ahead-ltminus32768 : goal.returns-else-ahead-ltminus32768
-returns-else-ahead-ltminus32768 c =
+pub returns-else-on : goal.returns-else-on
+returns-else-on c =
     rw (same_rollover c.args.highest c.args.sequence (omega arith) (omega (arith, ints)) (omega (arith, ints))) (omega (arith, ints))
