@@ -6,8 +6,8 @@ ghost use Rattle.std.specs.Io.KnownBytes.{Consumes};
 use std::io;
 use std::io::{ErrorKind, Read};
 
-// Reads until the buffer is full or the input ends, and gives back how many bytes it put at the buffer's start. A read that is interrupted is tried again, and after
-// 2^64 - 1 reads it gives up. That aside, the one error is that of a read that failed; what the buffer then holds is not told.
+// Reads until the buffer is full or the input ends, and gives back how many bytes it put at the buffer's start. A read that is interrupted is tried
+// again, and after 2^64 - 1 reads it gives up. That aside, the one error is that of a read that failed; what the buffer then holds is not told.
 pub fn read_full<R: Read>(input: &mut R, buf: &mut [u8]) -> io::Result<usize>
     ensures ok { IfOk result (λ n. n ≤ length buf.new) }
     ensures known { IfOk result (λ n. IfSome (R.remaining input.old) (λ bytes. take n buf.new ≡ take (length buf.new) bytes)) }
