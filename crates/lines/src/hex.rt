@@ -1,4 +1,6 @@
 // Bytes written as hex digits in lower case.
+ghost use Rattle.std.specs.Prelude.{◌≡◌, ◌<◌, ◌/◌, ◌%◌, length, replicate};
+
 use arrayvec::ArrayVec;
 use std::fmt;
 use text::reading::{array, bytes};
@@ -22,7 +24,10 @@ pub fn word<const N: usize>(word: &[u8]) -> ArrayVec<u8, N> {
 }
 
 // The bytes of a word up to the first two digits that are none, with zeros after them; zeros alone where its digits are odd in number or make more than N.
-pub fn padded<const N: usize>(word: &[u8]) -> [u8; N] {
+pub fn padded<const N: usize>(word: &[u8]) -> [u8; N]
+    ensures odd { length word.now % 2 ≡ 1 → result ≡ replicate N 0 }
+    ensures long { N < length word.now / 2 → result ≡ replicate N 0 }
+{
     let mut padded = [0; N];
     let (pairs, odd) = word.as_chunks::<2>();
     if odd.is_empty() && pairs.len() <= N {

@@ -6,12 +6,12 @@ mod indices;
 mod packets;
 
 use lines::asked::Asked;
-use lines::whole::beginning;
+use lines::whole::read_full;
 use packets::Pair;
 use std::io;
 
 // No more of the input is read.
-const MOST: u64 = 4096;
+const MOST: usize = 4096;
 
 // What a sum is about.
 #[derive(Clone, Copy)]
@@ -55,9 +55,10 @@ fn answer(rt: &impl Print, line: &[u8], pair: &mut Pair) -> io::Result<()> {
 }
 
 fn main(rt: HostRuntime) -> io::Result<()> {
-    let text = beginning(rt.alloc(), rt.stdin(), MOST)?;
+    let mut text = [0; MOST];
+    let read = read_full(&mut rt.stdin(), &mut text)?;
     let mut pair = Pair::new();
-    for line in text.split_inclusive(|b| *b == b'\n') {
+    for line in text[..read].split_inclusive(|b| *b == b'\n') {
         answer(&rt, line.strip_suffix(b"\n").unwrap_or(line), &mut pair)?;
     }
     Ok(())

@@ -7,13 +7,13 @@ use cipher_vectors::{ciphers, hashes, sealed};
 use extension_vectors::extensions;
 use lines::asked::Asked;
 use lines::hex;
-use lines::whole::beginning;
+use lines::whole::read_full;
 use packet_vectors::packets::{Setup, both_ways};
 use std::io;
 use suites::suite::Suite;
 
 // No more of the input is read.
-const MOST: u64 = 65536;
+const MOST: usize = 65536;
 
 // What a vector is of.
 #[derive(Clone, Copy)]
@@ -119,8 +119,9 @@ fn answer(rt: &impl Print, line: &[u8]) -> io::Result<()> {
 }
 
 fn main(rt: HostRuntime) -> io::Result<()> {
-    let text = beginning(rt.alloc(), rt.stdin(), MOST)?;
-    for line in text.split_inclusive(|b| *b == b'\n') {
+    let mut text = [0; MOST];
+    let read = read_full(&mut rt.stdin(), &mut text)?;
+    for line in text[..read].split_inclusive(|b| *b == b'\n') {
         answer(&rt, line.strip_suffix(b"\n").unwrap_or(line))?;
     }
     Ok(())
