@@ -73,5 +73,6 @@ pub fn unprotect_stream(
         return Err(Refusal::Tag);
     }
     commit(session, opened.place, Way::Receiving, opened.index);
-    Ok(n - context.suite.tag_length())
+    let t = context.suite.tag_length();
+    Ok(n - t)
 }
