@@ -74,16 +74,16 @@ module _ (way : Way) (words buf : List ℕ) (n : ℕ) where
         ready_by : (r : Result Opened Refusal) → r ≡ stream_of way words (take n buf) h → InStream way words (take n buf) r → OpensAs way words buf n r
         ready_by (Err r) s q = tt
         ready_by (Ok o) s q =
-            let same : o.layout ≡ h = same_layout (place_from 0 (decode words).records (ssrc_of (take n buf)) way) o s in
-            record { readable = record { inside = inside; judged = judged-so ∙ read ∙ ap Ok (sym same); room = rw (same, more-so) room }; placed = q }
+            let same : o.header ≡ Ok h = same_header (place_from 0 (decode words).records (ssrc_of (take n buf)) way) o s in
+            rw same (record { readable = record { inside = inside; judged = judged-so ∙ read; room = rw more-so room }; placed = q })
           where
-            by_index : (i : ℕ) (d : Result ℕ Refusal) (o : Opened) → Ok o ≡ open_index way words (take n buf) h i d → o.layout ≡ h
+            by_index : (i : ℕ) (d : Result ℕ Refusal) (o : Opened) → Ok o ≡ open_index way words (take n buf) h i d → o.header ≡ Ok h
             by_index i (Err r) o e = apart cc
-            by_index i (Ok k) o e = let f : o ≡ record { layout = h; place = i; index = k } = cc in ap (λ (x : Opened). x.layout) f
+            by_index i (Ok k) o e = let f : o ≡ record { header = Ok h; place = i; index = k } = cc in ap (λ (x : Opened). x.header) f
 
-            same_layout : (p : Option ℕ) (o : Opened) → Ok o ≡ open_at way words (take n buf) h p → o.layout ≡ h
-            same_layout None o e = apart cc
-            same_layout (Some i) o e = by_index i (judged_by way (record_in words i) (seq_of (take n buf))) o e
+            same_header : (p : Option ℕ) (o : Opened) → Ok o ≡ open_at way words (take n buf) h p → o.header ≡ Ok h
+            same_header None o e = apart cc
+            same_header (Some i) o e = by_index i (judged_by way (record_in words i) (seq_of (take n buf))) o e
 
         pub open-ready : InStream way words (take n buf) o → OpensAs way words buf n o
         open-ready q = ready_by o is_stream q

@@ -46,7 +46,7 @@ module _ (way : Way) (words packet : List ℕ) (h : Layout) (ssrc : ℕ) (is_ssr
     pub no_index : (r : Refusal) → j ≡ Err r → Err r ≡ stream_of way words packet h
     no_index r e = rw (place-so, at, judged-so, e)
 
-    pub with-index : (k : ℕ) → j ≡ Ok k → Ok (record { layout = h; place = i; index = k }) ≡ stream_of way words packet h
+    pub with-index : (k : ℕ) → j ≡ Ok k → Ok (record { header = Ok h; place = i; index = k }) ≡ stream_of way words packet h
     with-index k e = rw (place-so, at, judged-so, e)
 
     pub is-placed : (k : ℕ) → j ≡ Ok k → i < 32 → seq < 65536 → Placed way words packet i k

@@ -1,7 +1,7 @@
 -- The front of every packet call, in the order of its refusals: the memory's size, LENGTH, SHORT to LARGE, ROOM, STREAM, and those of the index rule.
 use Rattle.std.specs.Prelude.{◌≡◌, List, ℕ, ◌+◌, ◌^◌, ◌≤◌, ◌<◌, eqb, ltb, length, take, Option, Some, None, Result, Ok, Err}
 use Rattle.bits.specs.Pick.{pick}
-use Rattle.bits.specs.Refusals.{number_of, border_number_of}
+use Rattle.bits.specs.declared.refusal.Border.{Border}
 use Rattle.bits.specs.declared.refusal.Border.TheVariants as border
 use Rattle.bits.specs.declared.refusal.Refusal.{Refusal}
 use Rattle.bits.specs.declared.refusal.Refusal.TheVariants as refusal
@@ -15,8 +15,6 @@ use Rattle.session.specs.Memory.{size, suite_at, policy_at, decode}
 use Rattle.session.specs.Places.{place_from}
 use Rattle.records.specs.Tracks.{record_in, judged_by}
 use Rattle.front.specs.declared.open.Opened.{Opened}
-use Rattle.front.specs.declared.open.Shut.{Shut}
-use Rattle.front.specs.declared.open.Shut.TheVariants.{Border, Refused}
 
 -- ---- what the front answers for the packet p, of layout h
 
@@ -24,7 +22,7 @@ module _ (way : Way) (words p : List ℕ) (h : Layout) where
   -- ORDER, WORN, OLD, REPEAT
   abbrev pub open_index : ℕ → Result ℕ Refusal → Result Opened Refusal
   open_index i (Err r) = Err r
-  open_index i (Ok k) = Ok (record { layout = h; place = i; index = k })
+  open_index i (Ok k) = Ok (record { header = Ok h; place = i; index = k })
 
   -- STREAM
   abbrev pub open_at : Option ℕ → Result Opened Refusal
@@ -33,6 +31,11 @@ module _ (way : Way) (words p : List ℕ) (h : Layout) where
 
   abbrev pub stream_of : Result Opened Refusal
   stream_of = open_at (place_from 0 (decode words).records (ssrc_of p) way)
+
+-- the header reader's answer: every other refusal stands where the reader's own does
+abbrev pub opened_by : Result Opened Refusal → Opened
+opened_by (Ok o) = o
+opened_by (Err r) = record { header = Err r; place = 0; index = 0 }
 
 module _ (way : Way) (words buf : List ℕ) (n : ℕ) where
   -- SHORT to LARGE, then ROOM: a packet that arrives needs none
@@ -47,18 +50,9 @@ module _ (way : Way) (words buf : List ℕ) (n : ℕ) where
       pick (ltb (length buf) n) (Err refusal.Length)
       (open_read (judged_of way (policy_at (word words 0)) (tag_length_of (suite_at (word words 0))) (take n buf)))
 
-  -- the memory's size, then the rest: the answer in the terms of whoever has both
-  abbrev pub shut_by : Result Opened Refusal → Result Opened Shut
-  shut_by (Ok o) = Ok o
-  shut_by (Err r) = Err (Refused r)
-
-  unfoldable pub open_of : Result Opened Shut
-  open_of = pick (eqb (length words) size) (shut_by in_session_of) (Err (Border border.Memory))
-
--- the number of what shut
-abbrev pub shut_number : Shut → ℕ
-shut_number (Border b) = border_number_of b
-shut_number (Refused r) = number_of r
+  -- the memory's size, then the rest
+  unfoldable pub open_of : Result Opened Border
+  open_of = pick (eqb (length words) size) (Ok (opened_by in_session_of)) (Err border.Memory)
 
 -- ---- what holds where nothing was refused, for the calls' cores
 
@@ -83,10 +77,14 @@ pub record Ready (way : Way) (words buf : List ℕ) (n i k : ℕ) (h : Layout) :
   pub readable : Readable way words buf n h
   pub placed : Placed way words (take n buf) i k
 
+abbrev pub ReadyAt : Way → List ℕ → List ℕ → ℕ → ℕ → ℕ → Result Layout Refusal → Type 0
+ReadyAt way words buf n i k (Ok h) = Ready way words buf n i k h
+ReadyAt way words buf n i k (Err r) = Unit {0}
+
 abbrev pub OpensAs : Way → List ℕ → List ℕ → ℕ → Result Opened Refusal → Type 0
-OpensAs way words buf n (Ok o) = Ready way words buf n o.place o.index o.layout
+OpensAs way words buf n (Ok o) = ReadyAt way words buf n o.place o.index o.header
 OpensAs way words buf n (Err r) = Unit {0}
 
-abbrev pub Opens : Way → List ℕ → List ℕ → ℕ → Result Opened Shut → Type 0
-Opens way words buf n (Ok o) = (length words ≡ size) × Ready way words buf n o.place o.index o.layout
-Opens way words buf n (Err s) = Unit {0}
+abbrev pub Opens : Way → List ℕ → List ℕ → ℕ → Result Opened Border → Type 0
+Opens way words buf n (Ok o) = (length words ≡ size) × ReadyAt way words buf n o.place o.index o.header
+Opens way words buf n (Err b) = Unit {0}

@@ -1,7 +1,6 @@
 // What every packet call asks before it uses a key, with the way as an argument.
 ghost use Rattle.std.specs.Prelude.{◌≡◌, ◌≤◌, length};
-ghost use Rattle.front.specs.declared.open.Shut.TheVariants.{Refused};
-ghost use Rattle.front.specs.Opening.{stream_of, in_session_of, open_of, shut_number, InStream, OpensAs, Opens};
+ghost use Rattle.front.specs.Opening.{stream_of, in_session_of, open_of, InStream, OpensAs, Opens};
 
 use crate::fields::{sequence_number, ssrc};
 use bits::refusal::{Border, Refusal};
@@ -13,38 +12,12 @@ use rtp_header::header::Layout;
 use session::layout::SIZE;
 use session::load::{load_policy, load_suite};
 
-// What is found of a packet that has room, a stream and an index: its layout, the place of the stream's record, and the index.
+// The header reader's answer, which now also says whether the packet has room, a stream and an index; the place of the stream's record, and the index: 0 and 0 with a refusal.
 #[derive(Clone, Copy)]
 pub struct Opened {
-    pub layout: Layout,
+    pub header: Result<Layout, Refusal>,
     pub place: usize,
     pub index: u64,
-}
-
-// Why a packet call ends at its front: the border's own, or a refusal of document 01.
-#[derive(Clone, Copy, Debug, PartialEq, Eq)]
-pub enum Shut {
-    Border(Border),
-    Refused(Refusal),
-}
-
-impl From<Refusal> for Shut {
-    ghost from_gives = { λ refusal shut. shut ≡ Refused refusal };
-
-    fn from(refusal: Refusal) -> Shut {
-        Shut::Refused(refusal)
-    }
-}
-
-impl From<Shut> for u32 {
-    ghost from_gives = { λ shut n. n ≡ shut_number shut };
-
-    fn from(shut: Shut) -> u32 {
-        match shut {
-            Shut::Border(border) => u32::from(border),
-            Shut::Refused(refusal) => u32::from(refusal),
-        }
-    }
 }
 
 // STREAM, and then the refusals of the index rule, 10 to 13.
@@ -63,7 +36,7 @@ fn in_stream(
     };
     let index = tracks::judge(session, place, way, sequence_number(packet))?;
     Ok(Opened {
-        layout,
+        header: Ok(layout),
         place,
         index,
     })
@@ -87,13 +60,21 @@ fn in_session(session: &[u64; SIZE], buf: &[u8], n: usize, way: Way) -> Result<O
     in_stream(session, packet, way, layout)
 }
 
-// The same on any memory, whose size is asked first. The second `ensures` follows from the first; callers have it ready. (Buffer and length as the call lends them.)
-pub fn open(session: &[u64], buf: &[u8], n: usize, way: Way) -> Result<Opened, Shut>
+// The same on any memory, whose size is asked first; a refusal stands in the header. The second `ensures` follows from the first; callers have it ready.
+// (Buffer and length as the call lends them.)
+pub fn open(session: &[u64], buf: &[u8], n: usize, way: Way) -> Result<Opened, Border>
     ensures value { result ≡ open_of way session.now buf.now n }
     ensures opens { Opens way session.now buf.now n result }
 {
     let Some(session) = session.as_array::<SIZE>() else {
-        return Err(Shut::Border(Border::Memory));
+        return Err(Border::Memory);
     };
-    Ok(in_session(session, buf, n, way)?)
+    match in_session(session, buf, n, way) {
+        Ok(opened) => Ok(opened),
+        Err(refusal) => Ok(Opened {
+            header: Err(refusal),
+            place: 0,
+            index: 0,
+        }),
+    }
 }

@@ -9,14 +9,15 @@ use borrow.Author.Tests.{ne_eqb, le-ltb, ltb-false}
 use lib.Dec.{eqb, ltb}
 use lib.ListN.{length, get_or, take}
 use Rattle.bits.specs.Pick.{pick}
-use Rattle.bits.specs.Refusals.{number_of, wrong_memory}
+use Rattle.bits.specs.Refusals.{number_of, border_number_of, wrong_memory}
+use Rattle.bits.specs.declared.refusal.Border.{Border}
 use Rattle.bits.specs.declared.refusal.Border.TheVariants as border
 use Rattle.bits.specs.declared.refusal.Refusal.{Refusal}
 use Rattle.bits.specs.declared.refusal.Refusal.TheVariants as refusal
 use Rattle.bits.proofs.Refusals.{above_zero}
 use Rattle.memory.specs.Words.{word}
 use Rattle.rtp_header.specs.declared.header.Layout.{Layout}
-use Rattle.rtp_header.specs.Header.{seq_of, ssrc_of}
+use Rattle.rtp_header.specs.Header.{header_number, seq_of, ssrc_of}
 use Rattle.policies.specs.declared.policy.Policy.{Policy}
 use Rattle.policies.specs.declared.policy.Way.{Way}
 use Rattle.policies.specs.declared.policy.Way.TheVariants.{Sending, Receiving}
@@ -34,10 +35,8 @@ use Rattle.session.proofs.Memory.{made, policy-is, suite-is, placed-made}
 use Rattle.session.proofs.Places.{first-here, nowhere, stored_there}
 use Rattle.session.proofs.Ways.{in_by, read_by, call_by, effect_is, call-is, outcome-is}
 use Rattle.front.specs.declared.open.Opened.{Opened}
-use Rattle.front.specs.declared.open.Shut.{Shut}
-use Rattle.front.specs.declared.open.Shut.TheVariants.{Border}
 use Rattle.records.specs.Tracks.{record_in, judged_by}
-use Rattle.front.specs.Opening.{open_index, open_at, open_read, in_session_of, shut_by, shut_number, open_of}
+use Rattle.front.specs.Opening.{open_index, open_at, opened_by, open_read, in_session_of, open_of}
 use Rattle.streams.specs.Steps.{effect_at, left_by}
 use Rattle.streams.proofs.Effects.{wire-length, not_taken}
 
@@ -75,9 +74,12 @@ module _ (words buf : List ℕ) (n : ℕ) where
 
   -- ---- what the front answered
 
+  abbrev ended : Way → ℕ → Result Layout Refusal → Left
+  ended way i (Err r) = refused_with (number_of r) words buf
+  ended way i (Ok h) = left_by words i buf (effect_at way words i buf n)
+
   abbrev ended_by : Way → Result Opened Refusal → Left
-  ended_by way (Err r) = refused_with (number_of r) words buf
-  ended_by way (Ok o) = left_by words o.place buf (effect_at way words o.place buf n)
+  ended_by way o = ended way (opened_by o).place (opened_by o).header
 
   -- ORDER, WORN, OLD, REPEAT
   index-left : (way : Way) (h : Layout) (i : ℕ) (j : Result ℕ Refusal) → judged_by way (record_in words i) (seq_of (take n buf)) ≡ j
@@ -137,27 +139,27 @@ module _ (words buf : List ℕ) (n : ℕ) where
 
   -- ---- what the front answered to any memory
 
-  abbrev shut_at : Way → Result Opened Shut → Left
-  shut_at way (Ok o) = left_by words o.place buf (effect_at way words o.place buf n)
-  shut_at way (Err s) = refused_with (shut_number s) words buf
+  abbrev ended_at : Way → Result Opened Border → Left
+  ended_at way (Ok o) = ended way o.place o.header
+  ended_at way (Err b) = refused_with (border_number_of b) words buf
 
-  shut-alike : (way : Way) (o : Result Opened Refusal) → ended_by way o ≡ shut_at way (shut_by way words buf n o)
-  shut-alike way (Ok o) = refl
-  shut-alike way (Err r) = refl
-
-  front-left : (way : Way) → call_by way words buf n ≡ shut_at way (open_of way words buf n)
+  front-left : (way : Way) → call_by way words buf n ≡ ended_at way (open_of way words buf n)
   unfolding open_of in_session_of
   front-left way = sized-call way ∙ go (eqb (length words) size)
     where
       go : (b : Bool) → pick b (settled_by way (length_by way)) (refused_with wrong_memory words buf)
-          ≡ shut_at way (pick b (shut_by way words buf n (in_session_of way words buf n)) (Err (Border border.Memory)))
-      go true = length-left way ∙ shut-alike way (in_session_of way words buf n)
+          ≡ ended_at way (pick b (Ok (opened_by (in_session_of way words buf n))) (Err border.Memory))
+      go true = length-left way
       go false = refl
 
-  module _ (way : Way) (header : Result Opened Shut) (opens : header ≡ open_of way words buf n) where
-    pub shut-gives : (s : Shut) → header ≡ Err s → Gives (call_by way words buf n) (record { number = shut_number s; length = 0 }) buf words
-    shut-gives s e = rw (front-left way, sym opens, e) (record { answer = refl; buffer = refl; words = refl })
+  module _ (way : Way) (front : Result Opened Border) (opens : front ≡ open_of way words buf n) where
+    pub border-gives : (b : Border) → front ≡ Err b → Gives (call_by way words buf n) (record { number = border_number_of b; length = 0 }) buf words
+    border-gives b e = rw (front-left way, sym opens, e) (record { answer = refl; buffer = refl; words = refl })
 
-    pub opened-gives : (o : Opened) → header ≡ Ok o → (r : Given) (after memory : List ℕ)
-        → Gives (left_by words o.place buf (effect_at way words o.place buf n)) r after memory → Gives (call_by way words buf n) r after memory
-    opened-gives o e r after memory g = rw (front-left way, sym opens, e) g
+    module _ (o : Opened) (opened : front ≡ Ok o) where
+      pub unopened-gives : (r : Refusal) → o.header ≡ Err r → Gives (call_by way words buf n) (record { number = header_number o.header; length = 0 }) buf words
+      unopened-gives r e = rw (front-left way, sym opens, opened, e) (record { answer = refl; buffer = refl; words = refl })
+
+      pub opened-gives : (h : Layout) → o.header ≡ Ok h → (r : Given) (after memory : List ℕ)
+          → Gives (left_by words o.place buf (effect_at way words o.place buf n)) r after memory → Gives (call_by way words buf n) r after memory
+      opened-gives h e r after memory g = rw (front-left way, sym opens, opened, e) g

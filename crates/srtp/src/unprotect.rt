@@ -1,7 +1,7 @@
 // A packet unprotected in its buffer.
 ghost use Rattle.session.specs.Calls.{Gives, unprotect_call};
 
-use crate::answer::unopened;
+use crate::answer::{at_border, unopened};
 use front::open::open;
 use policies::policy::Way;
 use session::answer::Answer;
@@ -14,11 +14,15 @@ use streams::stream::unprotect_stream;
 pub fn unprotect(session: &mut [u64], buf: &mut [u8], n: usize) -> Answer
     ensures { Gives (unprotect_call session.old buf.old n) result buf.new session.new }
 {
-    let header = open(session, buf, n, Way::Receiving);
-    let Ok(opened) = header else {
+    let opened = match open(session, buf, n, Way::Receiving) {
+        Ok(opened) => opened,
+        Err(border) => return at_border(border),
+    };
+    let header = opened.header;
+    let Ok(layout) = header else {
         return unopened(header);
     };
     // The front found the memory's size.
     let session = session.as_mut_array::<SIZE>().unwrap();
-    Answer::from(unprotect_stream(session, opened, buf, n))
+    Answer::from(unprotect_stream(session, opened, layout, buf, n))
 }

@@ -16,6 +16,7 @@ use packet::protect::{protect_packet, unprotect_packet};
 use packet_cipher::context::Context;
 use policies::policy::Way;
 use records::tracks::commit;
+use rtp_header::header::Layout;
 use session::layout::SIZE;
 use session::load::{ids_of, keys_of, load_policy, load_suite};
 
@@ -39,13 +40,19 @@ fn context_of(session: &[u64; SIZE], packet: &[u8], index: u64) -> Context
     }
 }
 
-// The packet protected, and its index the last one sent; its new length. (Buffer and length as the call lends them.)
-pub fn protect_stream(session: &mut [u64; SIZE], opened: Opened, buf: &mut [u8], n: usize) -> usize
-    requires { Ready Sending session.old buf.old n opened.place opened.index opened.layout }
+// The packet protected, whose header was read as this layout, and its index the last one sent; its new length. (Buffer and length as the call lends them.)
+pub fn protect_stream(
+    session: &mut [u64; SIZE],
+    opened: Opened,
+    layout: Layout,
+    buf: &mut [u8],
+    n: usize,
+) -> usize
+    requires { Ready Sending session.old buf.old n opened.place opened.index layout }
     ensures { Gives (left_by session.old opened.place buf.old (effect_at Sending session.old opened.place buf.old n)) (answer_of (Ok result)) buf.new session.new }
 {
     let context = context_of(session, &buf[..n], opened.index);
-    let m = protect_packet(&context, buf, n, opened.layout);
+    let m = protect_packet(&context, buf, n, layout);
     commit(session, opened.place, Way::Sending, opened.index);
     m
 }
@@ -54,16 +61,18 @@ pub fn protect_stream(session: &mut [u64; SIZE], opened: Opened, buf: &mut [u8],
 pub fn unprotect_stream(
     session: &mut [u64; SIZE],
     opened: Opened,
+    layout: Layout,
     buf: &mut [u8],
     n: usize,
 ) -> Result<usize, Refusal>
-    requires { Ready Receiving session.old buf.old n opened.place opened.index opened.layout }
+    requires { Ready Receiving session.old buf.old n opened.place opened.index layout }
     ensures { Gives (left_by session.old opened.place buf.old (effect_at Receiving session.old opened.place buf.old n)) (answer_of result) buf.new session.new }
 {
     let context = context_of(session, &buf[..n], opened.index);
-    if !unprotect_packet(&context, buf, n, opened.layout) {
+    if !unprotect_packet(&context, buf, n, layout) {
         return Err(Refusal::Tag);
     }
     commit(session, opened.place, Way::Receiving, opened.index);
-    Ok(n - context.suite.tag_length())
+    let t = context.suite.tag_length();
+    Ok(n - t)
 }

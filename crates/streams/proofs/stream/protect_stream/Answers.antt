@@ -19,7 +19,7 @@ pub returns : goal.returns
 returns c =
     let a = c.args in
     let e = c.context_of-context.ensures in
-    let l = wire-length (suite_at (word a.session.now 0)) _ a.buf.now a.n a.opened.layout c.requires.readable.judged in
+    let l = wire-length (suite_at (word a.session.now 0)) _ a.buf.now a.n a.layout c.requires.readable.judged in
     let m = rw (e.policy, e.suite) at c.protect_packet-m.ensures.value ∙ sym l in
     let w = rw (e.keys, e.policy, e.suite, e.ids, e.ssrc, e.index) at c.protect_packet-m.ensures.buf_after in
     is-sent a.session.now a.opened.place a.buf.now a.n _ _ c.requires.placed.index _ m (rw m at w) _ c.commit.ensures

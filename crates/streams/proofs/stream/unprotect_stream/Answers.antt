@@ -26,7 +26,7 @@ returns-then-not-unprotect_packet c =
 pub overflow_sub-result : goal.overflow_sub-result
 overflow_sub-result c =
     let r = c.requires.readable in
-    omega (arith, judged-whole _ _ _ _ _ _ r.inside r.judged, c.tag_length.ensures.0 ∙ ap tag_length_of c.context_of-context.ensures.suite)
+    omega (arith, judged-whole _ _ _ _ _ _ r.inside r.judged, c.tag_length-t.ensures.0 ∙ ap tag_length_of c.context_of-context.ensures.suite)
 
 pub returns : goal.returns
 returns c =
@@ -34,4 +34,4 @@ returns c =
     let e = c.context_of-context.ensures in
     let v = rw (e.keys, e.policy, e.suite, e.ssrc, e.index) at c.unprotect_packet.ensures.value in
     let w = rw (e.keys, e.policy, e.suite, e.ids, e.ssrc, e.index) at c.unprotect_packet.ensures.buf_after in
-    is-received a.session.now a.opened.place a.buf.now a.n _ _ c.requires.placed.index _ v w c.if-not-unprotect_packet.false _ (c.tag_length.ensures.0 ∙ ap tag_length_of e.suite) _ c.commit.ensures
+    is-received a.session.now a.opened.place a.buf.now a.n _ _ c.requires.placed.index _ v w c.if-not-unprotect_packet.false _ (c.tag_length-t.ensures.0 ∙ ap tag_length_of e.suite) _ c.commit.ensures
