@@ -44,7 +44,7 @@ fn answer(rt: &impl Print, line: &[u8], pair: &mut Pair) -> io::Result<()> {
     let hex = asked.given;
     let (before, last) = asked.numbers();
     rt.write_all(asked.name)?;
-    print!(rt; ": ")?;
+    rt.write_all(b": ")?;
     match Sum::of(line) {
         Sum::Received => indices::received(rt, before, last),
         Sum::Sent => indices::sent(rt, before, last),

@@ -100,7 +100,7 @@ fn answer(rt: &impl Print, line: &[u8]) -> io::Result<()> {
     }
     let asked = Asked::from(line);
     rt.write_all(asked.name)?;
-    print!(rt; " ")?;
+    rt.write_all(b" ")?;
     let mut words = asked.given.split(|b| *b == b' ');
     let Some(kind) = words.next().and_then(Kind::of) else {
         return Ok(());

@@ -1,5 +1,5 @@
 -- `sha1_words::word::Stage::f` meets its contract, a stage at a time.
-use Rattle.std.proofs.Common.{sym, ap, ◌∙◌}
+use Rattle.std.proofs.Common.{arith, ◌≡◌, ◌/◌, sym, ap, ◌∙◌}
 use Rattle.sha1_words.specs.Stages.{stage_number}
 use Rattle.sha1_words.specs.Words.{f_of}
 use Rattle.sha1_words.proofs.Stages.{stage0, stage1, stage2, stage3}
@@ -23,4 +23,4 @@ returns-in-Third c = λ t e.
 pub returns-in-Fourth : goal.returns-in-Fourth
 unfolding f_of
 returns-in-Fourth c = λ t e.
-    c.parity-in-Fourth.ensures ∙ sym (stage3 t _ _ _ _ (e ∙ ap stage_number c.in-Fourth.is))
+    let s : t / 20 ≡ 3 = e ∙ ap stage_number c.in-Fourth.is in c.parity-in-Fourth.ensures ∙ sym (stage3 t _ _ _ _ (omega arith))

@@ -1,5 +1,5 @@
 -- `sha1_words::word::Stage::k` meets its contract, a stage at a time.
-use Rattle.std.proofs.Common.{sym, ap, ◌∙◌}
+use Rattle.std.proofs.Common.{arith, ◌≡◌, ◌/◌, sym, ap, ◌∙◌}
 use Rattle.sha1_words.specs.Stages.{stage_number}
 use Rattle.sha1_words.specs.Words.{k_of}
 use Rattle.sha1_words.proofs.Stages.{stage0, stage1, stage2, stage3}
@@ -19,4 +19,4 @@ returns-in-Third c = λ t e. sym (stage2 t _ _ _ _ (e ∙ ap stage_number c.in-T
 
 pub returns-in-Fourth : goal.returns-in-Fourth
 unfolding k_of
-returns-in-Fourth c = λ t e. sym (stage3 t _ _ _ _ (e ∙ ap stage_number c.in-Fourth.is))
+returns-in-Fourth c = λ t e. let s : t / 20 ≡ 3 = e ∙ ap stage_number c.in-Fourth.is in sym (stage3 t _ _ _ _ (omega arith))
