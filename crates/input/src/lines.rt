@@ -1,5 +1,5 @@
 // The input, cut into lines.
-ghost use Rattle.std.specs.Prelude.{◌≤◌, ◌≢◌, All, IfOk};
+ghost use Rattle.std.specs.Prelude.{◌≡◌, ◌≤◌, ◌≢◌, false, [], All, IfOk};
 
 use arrayvec::ArrayVec;
 use std::io;
@@ -49,6 +49,7 @@ impl<R: Read> Lines<R> {
     // turns that no run uses up. The one error is that of a read that failed: `line` then holds what was read of it before.
     pub fn next_line<const N: usize>(&mut self, line: &mut ArrayVec<u8, N>) -> io::Result<bool>
         ensures no_feed { IfOk result (λ _. All (λ b. b ≢ 10) line.new.items) }
+        ensures nothing_at_the_end { IfOk result (λ more. more ≡ false → line.new.items ≡ []) }
     {
         line.clear();
         let mut is_begun = false;
