@@ -12,15 +12,20 @@ use text::words::well_spaced;
 // A line that is longer than this cannot be read.
 pub const LONGEST: usize = 20000;
 
-// What a line asks for.
 #[derive(Clone, Copy)]
-enum Command {
-    OnSession(SessionCall),
-    Case,
+enum WordsCall {
     Find,
     Guess,
     Mask,
     Stretch,
+}
+
+// What a line asks for.
+#[derive(Clone, Copy)]
+enum Command {
+    OnSession(SessionCall),
+    OnWords(WordsCall),
+    Case,
 }
 
 impl Command {
@@ -32,10 +37,10 @@ impl Command {
             b"unprotect" => Some(Command::OnSession(SessionCall::Unprotect)),
             b"state" => Some(Command::OnSession(SessionCall::State)),
             b"case" => Some(Command::Case),
-            b"find" => Some(Command::Find),
-            b"guess" => Some(Command::Guess),
-            b"mask" => Some(Command::Mask),
-            b"stretch" => Some(Command::Stretch),
+            b"find" => Some(Command::OnWords(WordsCall::Find)),
+            b"guess" => Some(Command::OnWords(WordsCall::Guess)),
+            b"mask" => Some(Command::OnWords(WordsCall::Mask)),
+            b"stretch" => Some(Command::OnWords(WordsCall::Stretch)),
             _ => None,
         }
     }
@@ -49,6 +54,16 @@ fn new_case<R: Print>(output: &mut Output<R>, desk: &mut Desk, line: &[u8]) -> i
     output.write_back(line)
 }
 
+// The lines without a session. A function of its own: three of these answers hold 4,096 bytes, which each line would pay for in `run`.
+fn on_words<R: Print>(output: &mut Output<R>, call: WordsCall, words: &[&[u8]]) -> io::Result<()> {
+    match call {
+        WordsCall::Find => output.reply(find_element(words)),
+        WordsCall::Guess => output.reply(guess_index(words)),
+        WordsCall::Mask => output.reply(mask_block(words)),
+        WordsCall::Stretch => output.reply(stretch_data(words)),
+    }
+}
+
 fn run<R: Print>(
     output: &mut Output<R>,
     desk: &mut Desk,
@@ -60,10 +75,7 @@ fn run<R: Print>(
     };
     match Command::named(name) {
         Some(Command::OnSession(call)) => on_session(output, desk, call, rest),
-        Some(Command::Find) => output.reply(find_element(rest)),
-        Some(Command::Guess) => output.reply(guess_index(rest)),
-        Some(Command::Mask) => output.reply(mask_block(rest)),
-        Some(Command::Stretch) => output.reply(stretch_data(rest)),
+        Some(Command::OnWords(call)) => on_words(output, call, rest),
         Some(Command::Case) if !rest.is_empty() => new_case(output, desk, line),
         _ => output.unreadable(),
     }

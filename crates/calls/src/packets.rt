@@ -1,9 +1,8 @@
 // The lines `protect` and `unprotect`.
 use crate::output::Output;
 use session::answer::Answer;
-use std::fmt;
 use std::fmt::{Display, Formatter, Write};
-use std::io;
+use std::{fmt, io};
 use text::reading::{bytes, number};
 use text_output::output::Hex;
 
@@ -22,7 +21,7 @@ impl Display for Packet<'_> {
     }
 }
 
-// N BUFFER, for `protect` or `unprotect`. The buffer stays here, since a packet in an `Option` would be copied.
+// N BUFFER, for `protect` or `unprotect`. The buffer stays where it was read: each place that it moved to would be cleared and written once more.
 pub fn packet_call<F, R: Print>(
     output: &mut Output<R>,
     call: F,
@@ -39,10 +38,11 @@ where
     let Some(n) = number(n) else {
         return output.unreadable();
     };
-    let Some(mut buffer) = bytes::<4096>(buffer) else {
+    let mut buffer = bytes::<4096>(buffer);
+    let Some(buffer) = &mut buffer else {
         return output.unreadable();
     };
-    let answer = call(session, &mut buffer, n);
-    let buffer = Hex(&buffer);
+    let answer = call(session, buffer, n);
+    let buffer = Hex(buffer);
     output.reply(Some(Packet { answer, buffer }))
 }
