@@ -5,6 +5,7 @@ use arrayvec::ArrayVec;
 use element_lines::find::find_element;
 use index_lines::guess::guess_index;
 use mask_lines::mask::mask_block;
+use std::fmt::Display;
 use std::io;
 use stretch_lines::stretch::stretch_data;
 use text::words::well_spaced;
@@ -12,20 +13,15 @@ use text::words::well_spaced;
 // A line that is longer than this cannot be read.
 pub const LONGEST: usize = 20000;
 
-#[derive(Clone, Copy)]
-enum WordsCall {
-    Find,
-    Guess,
-    Mask,
-    Stretch,
-}
-
 // What a line asks for.
 #[derive(Clone, Copy)]
 enum Command {
     OnSession(SessionCall),
-    OnWords(WordsCall),
     Case,
+    Find,
+    Guess,
+    Mask,
+    Stretch,
 }
 
 impl Command {
@@ -37,10 +33,10 @@ impl Command {
             b"unprotect" => Some(Command::OnSession(SessionCall::Unprotect)),
             b"state" => Some(Command::OnSession(SessionCall::State)),
             b"case" => Some(Command::Case),
-            b"find" => Some(Command::OnWords(WordsCall::Find)),
-            b"guess" => Some(Command::OnWords(WordsCall::Guess)),
-            b"mask" => Some(Command::OnWords(WordsCall::Mask)),
-            b"stretch" => Some(Command::OnWords(WordsCall::Stretch)),
+            b"find" => Some(Command::Find),
+            b"guess" => Some(Command::Guess),
+            b"mask" => Some(Command::Mask),
+            b"stretch" => Some(Command::Stretch),
             _ => None,
         }
     }
@@ -54,14 +50,18 @@ fn new_case<R: Print>(output: &mut Output<R>, desk: &mut Desk, line: &[u8]) -> i
     output.write_back(line)
 }
 
-// The lines without a session. A function of its own: three of these answers hold 4,096 bytes, which each line would pay for in `run`.
-fn on_words<R: Print>(output: &mut Output<R>, call: WordsCall, words: &[&[u8]]) -> io::Result<()> {
-    match call {
-        WordsCall::Find => output.reply(find_element(words)),
-        WordsCall::Guess => output.reply(guess_index(words)),
-        WordsCall::Mask => output.reply(mask_block(words)),
-        WordsCall::Stretch => output.reply(stretch_data(words)),
-    }
+// A line without a session. The call has a frame of its own, for three of these answers hold 4,096 bytes.
+#[inline(never)]
+fn on_words<F, D: Display + Drop, R: Print>(
+    output: &mut Output<R>,
+    call: F,
+    words: &[&[u8]],
+) -> io::Result<()>
+where
+    F: FnOnce(&[&[u8]]) -> Option<D>,
+    requires { F.IsAlwaysCallable call }
+{
+    output.reply(&call(words))
 }
 
 fn run<R: Print>(
@@ -75,7 +75,10 @@ fn run<R: Print>(
     };
     match Command::named(name) {
         Some(Command::OnSession(call)) => on_session(output, desk, call, rest),
-        Some(Command::OnWords(call)) => on_words(output, call, rest),
+        Some(Command::Find) => on_words(output, find_element, rest),
+        Some(Command::Guess) => on_words(output, guess_index, rest),
+        Some(Command::Mask) => on_words(output, mask_block, rest),
+        Some(Command::Stretch) => on_words(output, stretch_data, rest),
         Some(Command::Case) if !rest.is_empty() => new_case(output, desk, line),
         _ => output.unreadable(),
     }

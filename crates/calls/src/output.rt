@@ -20,9 +20,9 @@ impl<'a, R: Print> Output<'a, R> {
     }
 
     // `?` for a line that cannot be read.
-    pub fn reply<D: Display + Drop>(&mut self, answer: Option<D>) -> io::Result<()> {
+    pub fn reply<D: Display>(&mut self, answer: &Option<D>) -> io::Result<()> {
         self.line.clear();
-        match &answer {
+        match answer {
             Some(answer) => self.line.writeln(answer)?,
             None => self.line.write_all(b"?\n")?,
         }

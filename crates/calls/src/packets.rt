@@ -21,7 +21,8 @@ impl Display for Packet<'_> {
     }
 }
 
-// N BUFFER, for `protect` or `unprotect`. The buffer stays where it was read: each place that it moved to would be cleared and written once more.
+// N BUFFER, for `protect` or `unprotect`. The buffer stays where it was read, in a frame of its own: each place that it moved to would be cleared and written.
+#[inline(never)]
 pub fn packet_call<F, R: Print>(
     output: &mut Output<R>,
     call: F,
@@ -44,5 +45,5 @@ where
     };
     let answer = call(session, buffer, n);
     let buffer = Hex(buffer);
-    output.reply(Some(Packet { answer, buffer }))
+    output.reply(&Some(Packet { answer, buffer }))
 }

@@ -40,10 +40,10 @@ pub fn on_session<R: Print>(
         return output.unreadable();
     };
     match call {
-        SessionCall::Make => output.reply(make_session(session, rest)),
-        SessionCall::Add => output.reply(add_stream(session, rest)),
+        SessionCall::Make => output.reply(&make_session(session, rest)),
+        SessionCall::Add => output.reply(&add_stream(session, rest)),
         SessionCall::Protect => packet_call(output, protect, session, rest),
         SessionCall::Unprotect => packet_call(output, unprotect, session, rest),
-        SessionCall::State => output.reply(show_state(session, rest)),
+        SessionCall::State => output.reply(&show_state(session, rest)),
     }
 }
