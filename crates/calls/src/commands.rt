@@ -1,5 +1,7 @@
 // A line of the script, answered by its first word.
+use crate::output::Output;
 use crate::sessions::{Desk, SessionCall, on_session};
+use arrayvec::ArrayVec;
 use element_lines::find::find_element;
 use index_lines::guess::guess_index;
 use mask_lines::mask::mask_block;
@@ -40,50 +42,61 @@ impl Command {
     }
 }
 
-// The answer to a line; `?` for one that cannot be read, which changes nothing.
-pub fn reply<D: Display + Drop>(rt: &impl Print, answer: Option<D>) -> io::Result<()> {
-    match answer {
-        Some(answer) => rt.println(answer),
-        None => rt.println("?"),
-    }
-}
-
 // A new list of calls begins: the line is written back, and all sessions are forgotten.
-fn new_case(rt: &impl Print, desk: &mut Desk, line: &[u8]) -> io::Result<()> {
+fn new_case<R: Print>(output: &mut Output<R>, desk: &mut Desk, line: &[u8]) -> io::Result<()> {
     for session in desk.iter_mut() {
         session.fill(0);
     }
-    rt.write_all(line)?;
-    rt.write_all(b"\n")
+    output.write_back(line)
 }
 
-fn run(rt: &impl Print, desk: &mut Desk, line: &[u8], words: &[&[u8]]) -> io::Result<()> {
+// A line without a session. The call has a frame of its own, for three of these answers hold 4,096 bytes.
+#[inline(never)]
+fn on_words<F, D: Display + Drop, R: Print>(
+    output: &mut Output<R>,
+    call: F,
+    words: &[&[u8]],
+) -> io::Result<()>
+where
+    F: FnOnce(&[&[u8]]) -> Option<D>,
+    requires { F.IsAlwaysCallable call }
+{
+    output.reply(&call(words))
+}
+
+fn run<R: Print>(
+    output: &mut Output<R>,
+    desk: &mut Desk,
+    line: &[u8],
+    words: &[&[u8]],
+) -> io::Result<()> {
     let [name, rest @ ..] = words else {
-        return rt.println("?");
+        return output.unreadable();
     };
     match Command::named(name) {
-        Some(Command::OnSession(call)) => on_session(rt, desk, call, rest),
-        Some(Command::Find) => reply(rt, find_element(rest)),
-        Some(Command::Guess) => reply(rt, guess_index(rest)),
-        Some(Command::Mask) => reply(rt, mask_block(rest)),
-        Some(Command::Stretch) => reply(rt, stretch_data(rest)),
-        Some(Command::Case) if !rest.is_empty() => new_case(rt, desk, line),
-        _ => rt.println("?"),
+        Some(Command::OnSession(call)) => on_session(output, desk, call, rest),
+        Some(Command::Find) => on_words(output, find_element, rest),
+        Some(Command::Guess) => on_words(output, guess_index, rest),
+        Some(Command::Mask) => on_words(output, mask_block, rest),
+        Some(Command::Stretch) => on_words(output, stretch_data, rest),
+        Some(Command::Case) if !rest.is_empty() => new_case(output, desk, line),
+        _ => output.unreadable(),
     }
 }
 
-// Nothing is written for an empty line and for a comment, but for a longer one than is read. After an error of writing, the call was made: the sessions
-// are as after an answer that was written.
-pub fn answer(rt: &(impl Print + AllocGlobal), desk: &mut Desk, line: &[u8]) -> io::Result<()> {
+// Nothing is written for an empty line and for a comment, but for a longer one than is read. No call takes more than seven words: of a line with more than
+// eight the first eight tell. After an error of writing, the call was made: the sessions are as after an answer that was written.
+pub fn answer<R: Print>(output: &mut Output<R>, desk: &mut Desk, line: &[u8]) -> io::Result<()> {
     if line.len() > LONGEST {
-        return rt.println("?");
+        return output.unreadable();
     }
     if line.is_empty() || line.starts_with(b"#") {
         return Ok(());
     }
     if !well_spaced(line) {
-        return rt.println("?");
+        return output.unreadable();
     }
-    let words: Vec<&[u8]> = line.split(|b| *b == b' ').collect(rt.alloc())?;
-    run(rt, desk, line, words.as_slice())
+    let mut words = ArrayVec::<&[u8], 8>::new();
+    let _ = words.extend(line.split(|b| *b == b' '));
+    run(output, desk, line, &words)
 }

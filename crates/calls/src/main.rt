@@ -3,25 +3,29 @@
 #![tactic(auto)]
 
 mod commands;
+mod output;
 mod packets;
 mod sessions;
 
-use crate::commands::{LONGEST, answer};
-use input::lines::next_line;
+use crate::commands::answer;
+use crate::output::Output;
+use arrayvec::ArrayVec;
+use input::lines::Lines;
 use session::layout::SIZE;
 use std::io;
-use std::io::BufReader;
 
-// A proved loop has to end, and nothing says that the input does: it is bounded by a number of turns that no run uses up.
+// Eight sessions, none of them made. A line has a byte more than the longest that is read, so that a longer one is known. A proved loop has to end, and
+// nothing says that the input does: it is bounded by a number of turns that no run uses up.
 fn main(rt: HostRuntime) -> io::Result<()> {
-    let mut input = BufReader::new(rt.alloc(), rt.stdin())?;
+    let mut lines = Lines::new(rt.stdin());
+    let mut line = ArrayVec::<u8, 20001>::new();
+    let mut output = Output::new(&rt);
     let mut desk = [[0; SIZE]; 8];
-    let mut line = Vec::with_capacity(rt.alloc(), LONGEST + 1)?;
     for _ in 0..u64::MAX {
-        let Some(read) = next_line(&mut input, &mut line, LONGEST)? else {
+        if !lines.next_line(&mut line)? {
             break;
-        };
-        answer(&rt, &mut desk, read)?;
+        }
+        answer(&mut output, &mut desk, &line)?;
     }
     Ok(())
 }

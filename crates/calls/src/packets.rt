@@ -1,37 +1,49 @@
 // The lines `protect` and `unprotect`.
-use arrayvec::ArrayVec;
+use crate::output::Output;
 use session::answer::Answer;
-use std::fmt;
 use std::fmt::{Display, Formatter, Write};
+use std::{fmt, io};
 use text::reading::{bytes, number};
 use text_output::output::Hex;
 
 // NO LENGTH BUFFER: the buffer is written whole, as the call left it.
-#[derive(Drop)]
-pub struct Packet {
+#[derive(Clone, Copy)]
+struct Packet<'a> {
     answer: Answer,
-    buffer: ArrayVec<u8, 4096>,
+    buffer: Hex<'a>,
 }
 
-impl Display for Packet {
+impl Display for Packet<'_> {
     fn fmt<W: Write>(&self, f: &mut Formatter<W>) -> fmt::Result {
         let Answer { number, length } = self.answer;
-        let buffer = Hex(&self.buffer);
+        let buffer = self.buffer;
         write!(f, "{number} {length} {buffer}")
     }
 }
 
-// N BUFFER, for `protect` or `unprotect`; `None` where the words cannot be read.
-pub fn packet_call<F>(call: F, session: &mut [u64], words: &[&[u8]]) -> Option<Packet>
+// N BUFFER, for `protect` or `unprotect`. The buffer stays where it was read, in a frame of its own: each place that it moved to would be cleared and written.
+#[inline(never)]
+pub fn packet_call<F, R: Print>(
+    output: &mut Output<R>,
+    call: F,
+    session: &mut [u64],
+    words: &[&[u8]],
+) -> io::Result<()>
 where
     F: FnOnce(&mut [u64], &mut [u8], usize) -> Answer,
     requires { F.IsAlwaysCallable call }
 {
     let [n, buffer] = words else {
-        return None;
+        return output.unreadable();
     };
-    let n = number(n)?;
-    let mut buffer = bytes(buffer)?;
-    let answer = call(session, &mut buffer, n);
-    Some(Packet { answer, buffer })
+    let Some(n) = number(n) else {
+        return output.unreadable();
+    };
+    let mut buffer = bytes::<4096>(buffer);
+    let Some(buffer) = &mut buffer else {
+        return output.unreadable();
+    };
+    let answer = call(session, buffer, n);
+    let buffer = Hex(buffer);
+    output.reply(&Some(Packet { answer, buffer }))
 }

@@ -1,5 +1,5 @@
 // The lines that name a session.
-use crate::commands::reply;
+use crate::output::Output;
 use crate::packets::packet_call;
 use session::layout::SIZE;
 use setup_lines::add::add_stream;
@@ -27,23 +27,23 @@ fn named<'a>(desk: &'a mut Desk, name: &[u8]) -> Option<&'a mut [u64; SIZE]> {
     desk.get_mut(number::<usize>(name)?)
 }
 
-pub fn on_session(
-    rt: &impl Print,
+pub fn on_session<R: Print>(
+    output: &mut Output<R>,
     desk: &mut Desk,
     call: SessionCall,
     words: &[&[u8]],
 ) -> io::Result<()> {
     let [name, rest @ ..] = words else {
-        return rt.println("?");
+        return output.unreadable();
     };
     let Some(session) = named(desk, name) else {
-        return rt.println("?");
+        return output.unreadable();
     };
     match call {
-        SessionCall::Make => reply(rt, make_session(session, rest)),
-        SessionCall::Add => reply(rt, add_stream(session, rest)),
-        SessionCall::Protect => reply(rt, packet_call(protect, session, rest)),
-        SessionCall::Unprotect => reply(rt, packet_call(unprotect, session, rest)),
-        SessionCall::State => reply(rt, show_state(session, rest)),
+        SessionCall::Make => output.reply(&make_session(session, rest)),
+        SessionCall::Add => output.reply(&add_stream(session, rest)),
+        SessionCall::Protect => packet_call(output, protect, session, rest),
+        SessionCall::Unprotect => packet_call(output, unprotect, session, rest),
+        SessionCall::State => output.reply(&show_state(session, rest)),
     }
 }

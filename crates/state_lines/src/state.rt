@@ -85,11 +85,10 @@ impl Display for State<'_> {
     }
 }
 
-// `None` where there are words behind the session.
-pub fn show_state<'a>(session: &'a [u64; SIZE], words: &[&[u8]]) -> Option<State<'a>> {
-    if words.is_empty() {
-        Some(State(session))
-    } else {
-        None
+// `None` where there are words behind the session, and for memory of another size.
+pub fn show_state<'a>(session: &'a [u64], words: &[&[u8]]) -> Option<State<'a>> {
+    if !words.is_empty() {
+        return None;
     }
+    Some(State(session.as_array()?))
 }
