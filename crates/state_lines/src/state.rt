@@ -8,7 +8,7 @@ use session::layout::{EACH, FRONT, REPLAY, REPLAY_END, SIZE};
 use session::load::{is_made, load_policy, low};
 use std::fmt;
 use std::fmt::{Display, Formatter, Write};
-use text_output::output::write_list;
+use text_output::output::{Decimal, write_list};
 
 // SSRC:WAY:HIGHEST:SEEN, as the words of a record show it.
 #[derive(Clone, Copy)]
@@ -45,7 +45,9 @@ fn write_seen<W: Write>(f: &mut Formatter<W>, ring: &[u64], highest: u64) -> fmt
     let distances = 0..=highest.min(63);
     write_list(
         f,
-        distances.filter(|distance| seen(ring, highest - *distance)),
+        distances
+            .filter(|distance| seen(ring, highest - *distance))
+            .map(Decimal),
         ",",
     )
 }
@@ -54,14 +56,16 @@ impl Display for Record<'_> {
     fn fmt<W: Write>(&self, f: &mut Formatter<W>) -> fmt::Result {
         let ssrc = self.ssrc;
         let way = match self.way {
-            Way::Sending => 's',
-            Way::Receiving => 'r',
+            Way::Sending => ":s:",
+            Way::Receiving => ":r:",
         };
-        write!(f, "{ssrc:08x}:{way}:")?;
+        write!(f, "{ssrc:08x}")?;
+        f.write_str(way)?;
         let [1, highest, ring @ ..] = self.track else {
             return f.write_str("-:-");
         };
-        write!(f, "{highest}:")?;
+        Decimal(*highest).fmt(f)?;
+        f.write_str(":")?;
         match self.way {
             Way::Sending => f.write_str("-"),
             Way::Receiving => write_seen(f, ring, *highest),
