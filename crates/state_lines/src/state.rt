@@ -2,12 +2,13 @@
 ghost use Rattle.std.specs.Prelude.{◌≡◌, ◌≤◌, length};
 ghost use Rattle.session.specs.Memory.{each};
 
+use arrayvec::ArrayVec;
 use policies::policy::Way;
 use replay::ring::seen;
 use session::layout::{EACH, FRONT, REPLAY, REPLAY_END, SIZE};
 use session::load::{is_made, load_policy, low};
-use std::fmt;
 use std::fmt::{Display, Formatter, Write};
+use std::{fmt, str};
 use text_output::output::{Decimal, write_list};
 
 // SSRC:WAY:HIGHEST:SEEN, as the words of a record show it.
@@ -38,18 +39,32 @@ impl<'a> Record<'a> {
     }
 }
 
-// The accepted indices less than 64 behind the highest, as distances below it; `-` for none. The ring has every one of them.
+// A number below 100 in decimal, behind a comma where it is not the first. There is room for 64 of them.
+fn put_distance(text: &mut ArrayVec<u8, 192>, distance: u64) {
+    if !text.is_empty() {
+        let _ = text.try_push(b',');
+    }
+    if distance > 9 {
+        let _ = text.try_push(b'0' + (distance / 10 % 10) as u8);
+    }
+    let _ = text.try_push(b'0' + (distance % 10) as u8);
+}
+
+// The accepted indices less than 64 behind the highest, as distances below it; `-` for none. The ring has every one of them. They are put together first:
+// a list that calls the formatter for each takes twice the instructions.
 fn write_seen<W: Write>(f: &mut Formatter<W>, ring: &[u64], highest: u64) -> fmt::Result
     requires { 2 ≤ length ring.now }
 {
-    let distances = 0..=highest.min(63);
-    write_list(
-        f,
-        distances
-            .filter(|distance| seen(ring, highest - *distance))
-            .map(Decimal),
-        ",",
-    )
+    let mut text = ArrayVec::<u8, 192>::new();
+    for distance in 0..=highest.min(63) {
+        if seen(ring, highest - distance) {
+            put_distance(&mut text, distance);
+        }
+    }
+    match str::from_utf8(&text) {
+        Ok("") | Err(_) => f.write_str("-"),
+        Ok(text) => f.write_str(text),
+    }
 }
 
 impl Display for Record<'_> {
