@@ -3,13 +3,14 @@ ghost use Rattle.std.specs.Prelude.{◌≡◌, ◌≤◌, length};
 ghost use Rattle.session.specs.Memory.{each};
 
 use arrayvec::ArrayVec;
+use itoa::Buffer;
 use policies::policy::Way;
 use replay::ring::seen;
 use session::layout::{EACH, FRONT, REPLAY, REPLAY_END, SIZE};
 use session::load::{is_made, load_policy, low};
 use std::fmt::{Display, Formatter, Write};
 use std::{fmt, str};
-use text_output::output::{Decimal, write_list};
+use text_output::output::write_list;
 
 // SSRC:WAY:HIGHEST:SEEN, as the words of a record show it.
 #[derive(Clone, Copy)]
@@ -39,9 +40,30 @@ impl<'a> Record<'a> {
     }
 }
 
-// A number below 100 in decimal, behind a comma where it is not the first. There is room for 64 of them.
-fn put_distance(text: &mut ArrayVec<u8, 192>, distance: u64) {
-    if !text.is_empty() {
+// What stands of a record, put together before it is written: a formatter that is called for each part takes twice the instructions. There is room for all:
+// eight digits, a way, twenty digits, and 64 numbers below 100.
+type Text = ArrayVec<u8, 256>;
+
+fn put(text: &mut Text, bytes: &[u8]) {
+    let _ = text.try_extend_from_slice(bytes);
+}
+
+fn put_hex(text: &mut Text, bytes: &[u8]) {
+    for b in bytes {
+        let high = b"0123456789abcdef"[(*b / 16) as usize];
+        let low = b"0123456789abcdef"[(*b % 16) as usize];
+        put(text, &[high, low]);
+    }
+}
+
+fn put_decimal(text: &mut Text, n: u64) {
+    let mut digits = Buffer::new();
+    put(text, digits.format(n).as_bytes());
+}
+
+// A number below 100, behind a comma where it is not the first.
+fn put_distance(text: &mut Text, is_first: bool, distance: u64) {
+    if !is_first {
         let _ = text.try_push(b',');
     }
     if distance > 9 {
@@ -50,41 +72,46 @@ fn put_distance(text: &mut ArrayVec<u8, 192>, distance: u64) {
     let _ = text.try_push(b'0' + (distance % 10) as u8);
 }
 
-// The accepted indices less than 64 behind the highest, as distances below it; `-` for none. The ring has every one of them. They are put together first:
-// a list that calls the formatter for each takes twice the instructions.
-fn write_seen<W: Write>(f: &mut Formatter<W>, ring: &[u64], highest: u64) -> fmt::Result
+// The accepted indices less than 64 behind the highest, as distances below it; `-` for none. The ring has every one of them.
+fn put_seen(text: &mut Text, ring: &[u64], highest: u64)
     requires { 2 ≤ length ring.now }
 {
-    let mut text = ArrayVec::<u8, 192>::new();
+    let mut is_first = true;
     for distance in 0..=highest.min(63) {
         if seen(ring, highest - distance) {
-            put_distance(&mut text, distance);
+            put_distance(text, is_first, distance);
+            is_first = false;
         }
     }
-    match str::from_utf8(&text) {
-        Ok("") | Err(_) => f.write_str("-"),
-        Ok(text) => f.write_str(text),
+    if is_first {
+        put(text, b"-");
+    }
+}
+
+impl Record<'_> {
+    fn put_in(&self, text: &mut Text) {
+        put_hex(text, &self.ssrc.to_be_bytes());
+        match self.way {
+            Way::Sending => put(text, b":s:"),
+            Way::Receiving => put(text, b":r:"),
+        }
+        let [1, highest, ring @ ..] = self.track else {
+            return put(text, b"-:-");
+        };
+        put_decimal(text, *highest);
+        put(text, b":");
+        match self.way {
+            Way::Sending => put(text, b"-"),
+            Way::Receiving => put_seen(text, ring, *highest),
+        }
     }
 }
 
 impl Display for Record<'_> {
     fn fmt<W: Write>(&self, f: &mut Formatter<W>) -> fmt::Result {
-        let ssrc = self.ssrc;
-        let way = match self.way {
-            Way::Sending => ":s:",
-            Way::Receiving => ":r:",
-        };
-        write!(f, "{ssrc:08x}")?;
-        f.write_str(way)?;
-        let [1, highest, ring @ ..] = self.track else {
-            return f.write_str("-:-");
-        };
-        Decimal(*highest).fmt(f)?;
-        f.write_str(":")?;
-        match self.way {
-            Way::Sending => f.write_str("-"),
-            Way::Receiving => write_seen(f, ring, *highest),
-        }
+        let mut text = Text::new();
+        self.put_in(&mut text);
+        f.write_str(str::from_utf8(&text).map_err(|_| fmt::Error)?)
     }
 }
 

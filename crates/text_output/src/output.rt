@@ -1,7 +1,6 @@
 // What stands in a line of output: bytes, and lists.
 ghost use Rattle.std.specs.Iterator.{IsFinite};
 
-use itoa::Buffer;
 use std::fmt;
 use std::fmt::{Display, Formatter, Write};
 
@@ -24,17 +23,6 @@ impl Display for Hex<'_> {
             write!(f, "{b:02x}")?;
         }
         Ok(())
-    }
-}
-
-// A number in decimal digits. `write!` asks for a sign and a width first, in twice the instructions.
-#[derive(Clone, Copy)]
-pub struct Decimal(pub u64);
-
-impl Display for Decimal {
-    fn fmt<W: Write>(&self, f: &mut Formatter<W>) -> fmt::Result {
-        let mut digits = Buffer::new();
-        f.write_str(digits.format(self.0))
     }
 }
 
