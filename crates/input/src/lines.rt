@@ -18,7 +18,11 @@ pub struct Lines<R> {
 }
 
 impl<R: Read> Lines<R> {
-    pub fn new(input: R) -> Self {
+    // Nothing is read yet, and the input is not known to have ended.
+    pub fn new(input: R) -> Self
+        ensures unread { result.from ≡ result.filled }
+        ensures not_ended { result.ended ≡ false }
+    {
         Lines {
             input,
             chunk: [0; 4096],

@@ -1,3 +1,4 @@
+-- `input::lines::Lines::next_line` meets its contract: no line feed so far, and nothing before a line is begun.
 use Rattle.std.proofs.Common.{◌≡◌, ◌≢◌, false, [], All}
 use Rattle.input.proofs.lines.Lines.next_line.Given as goal
 
