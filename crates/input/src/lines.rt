@@ -1,9 +1,10 @@
 // The input, cut into lines.
-ghost use Rattle.std.specs.Prelude.{◌≡◌, ◌≤◌, ◌≢◌, false, [], All, IfOk};
+ghost use Rattle.std.specs.Prelude.{◌≡◌, ◌≤◌, ◌≢◌, false, [], All, IfOk, IfSome, option_copied};
+ghost use Rattle.input.specs.Lines.{next_line_of};
 
 use arrayvec::ArrayVec;
 use std::io;
-use std::io::{ErrorKind, Read, Write};
+use std::io::{BufRead, ErrorKind, Read, Write};
 
 // What is still to be cut stands in the chunk between `from` and `filled`.
 #[derive(Drop)]
@@ -72,5 +73,65 @@ impl<R: Read> Lines<R> {
             self.refill()?;
         }
         Ok(is_begun)
+    }
+}
+
+// The next line of an input whose caller reads it on behind the line, without its line feed; `None` at the end. Where the input ends in the middle of a line,
+// that is one too. Of a line of more than `most` bytes the first `most` and one more are kept, so that it is known for one. The one error is that of a read
+// that failed or of memory: `line` then holds what was read of it before.
+pub fn next_line<'a, R: BufRead>(
+    input: &mut R,
+    line: &'a mut Vec<u8>,
+    most: usize,
+) -> io::Result<Option<&'a [u8]>>
+    ensures no_feed { IfOk result (λ next. IfSome next (λ l. All (λ b. b ≢ 10) l.now)) }
+    ensures known { IfOk result (λ next. IfSome (R.remaining input.old) (λ bytes. option_copied next ≡ next_line_of most bytes)) }
+{
+    line.clear();
+    let read = (&mut *input)
+        .take((most as u64).saturating_add(1))
+        .read_until(b'\n', line)?;
+    if line.last() == Some(&b'\n') {
+        line.pop();
+    } else if read > most {
+        input.skip_until(b'\n')?;
+    }
+    let at_end = read == 0;
+    Ok(if at_end { None } else { Some(line.as_slice()) })
+}
+
+#[cfg(test)]
+mod tests {
+    use super::next_line;
+    use std::io::BufReader;
+    use std::test::Fail;
+
+    // Where the next line begins, and that the input can be read on there, no clause says.
+    #[test]
+    fn one_line_after_another(rt: HostRuntime) -> Result<(), Fail> {
+        let text: &[u8] = b"one\n\nlonger\nfour\nfives\n\nlast";
+        let lines: [&[u8]; 7] = [b"one", b"", b"longe", b"four", b"fives", b"", b"last"];
+        let mut line = Vec::new(rt.alloc());
+        let mut whole = text;
+        let mut buffered = BufReader::new(rt.alloc(), text)?;
+        for want in lines {
+            assert_eq!(rt; next_line(&mut whole, &mut line, 4)?, Some(want));
+            assert_eq!(rt; next_line(&mut buffered, &mut line, 4)?, Some(want));
+        }
+        for _ in 0..2 {
+            assert_eq!(rt; next_line(&mut whole, &mut line, 4)?, None);
+            assert_eq!(rt; next_line(&mut buffered, &mut line, 4)?, None);
+        }
+        let mut rest: &[u8] = b"longer\nbehind it";
+        assert_eq!(rt;
+            next_line(&mut rest, &mut line, 4)?,
+            Some(b"longe".as_slice())
+        );
+        assert_eq!(rt; rest, b"behind it".as_slice());
+        assert_eq!(rt;
+            next_line(&mut rest, &mut line, usize::MAX)?,
+            Some(b"behind it".as_slice())
+        );
+        Ok(())
     }
 }
