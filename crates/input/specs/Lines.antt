@@ -1,4 +1,4 @@
--- Lines, by docs/CALLS.md: each ends with a line feed, the last one perhaps with the input.
+-- Lines, as docs/CALLS.md has them under "A line": each ends with a line feed, or the last one with the input.
 use Rattle.std.specs.Prelude.{ℕ, ◌+◌, List, [], ◌∷◌, take, Option, Some, None}
 use Rattle.std.specs.Io.BufRead.{first_piece}
 

@@ -24,9 +24,11 @@ cut g c =
 
 pub returns-clause-no_feed : goal.returns-clause-no_feed
 returns-clause-no_feed g c =
+    let xs = c.read_until.new.buf.items in
+    let stops : StopsAt xs 10 = subst (λ l. StopsAt l 10) (ap (λ l. drop (length l) xs) c.clear.ensures.items) c.read_until.ensures.stops in
     elim c.if-at_end.branch [
       | then-at_end w ↦ rw w.result-is tt
-      | else-at_end w ↦ rw w.result-is (subst (All (λ b. b ≢ 10)) (sym (cut g c) ∙ sym w.as_slice.ensures.value) (without-feed c.read_until.new.buf.items (subst (λ l. StopsAt l 10) (ap (λ l. drop (length l) c.read_until.new.buf.items) c.clear.ensures.items) c.read_until.ensures.stops)))
+      | else-at_end w ↦ rw w.result-is (subst (All (λ b. b ≢ 10)) (sym (cut g c) ∙ sym w.as_slice.ensures.value) (without-feed xs stops))
     ]
 
 pub returns-clause-known : goal.returns-clause-known
